@@ -1,0 +1,4 @@
+pub mod Counting
+pub mod Interference
+pub mod Tasks
+pub mod Work

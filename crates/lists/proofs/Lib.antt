@@ -1,0 +1,3 @@
+pub mod Places
+pub mod Rotations
+pub mod Steps

@@ -1,0 +1,3 @@
+// The ordered list: a queue over memory that the caller gives.
+pub mod list;
+mod moves;

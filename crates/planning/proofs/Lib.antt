@@ -1,0 +1,5 @@
+pub mod Judging
+pub mod Test
+pub mod Urgency
+pub mod Verdicts
+pub mod Walks

@@ -1,0 +1,2 @@
+pub mod Extras
+pub mod Laws

@@ -1,0 +1,4 @@
+use Rattle.sheets.proofs.words.lines_of.Needs as need
+
+pub returns : need.returns
+returns c = c .cut-at .ensures
