@@ -12,7 +12,7 @@ use Rattle.std.proofs.shelf.Sums.{sumBy-le, sumBy-more, sumBy-take-le, sumBy-co
 use Rattle.std.proofs.shelf.Tests.{and-parts, or-parts, or-from, not-true, cond-false, ne-eqb, eqb-false}
 use Rattle.std.proofs.shelf.Ways.{tells}
 use Rattle.std.specs.shelf.Lists.{All, sum, sumBy}
-use Rattle.queues.proofs.Extras.{extra-lawful}
+use Rattle.queues.proofs.Orders.{extra-lawful}
 use Rattle.queues.proofs.Laws.{sort-push, has-sort, length-sort}
 use Rattle.queues.specs.Items.{extra-at, extra-before}
 use Rattle.queues.specs.Sets.{same, has, insert, sort, put-set}

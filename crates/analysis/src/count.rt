@@ -13,8 +13,8 @@ use crate::lawful::is_lawful;
 use crate::task::BoundedTask;
 use crate::task::Task;
 use crate::work;
-use lists::list::ListQueue;
-use lists::list::OrderedList;
+use heaps::heap::Heap;
+use heaps::heap::HeapQueue;
 use queues::extra::Extra;
 use queues::queue::Queue;
 use queues::ranks::ExtraOrder;
@@ -83,7 +83,7 @@ pub fn total(task: &Task, others: &[BoundedTask], cores: u8, window: u16) -> u32
         amount: 0,
         level: 0,
     }; 32];
-    let mut queue = OrderedList::new(&mut cells);
+    let mut queue = Heap::new(&mut cells);
     let plain = count_plain(&mut queue, task, window, others);
     plain + take_largest(&mut queue, cores - 1)
 }

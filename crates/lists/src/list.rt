@@ -12,19 +12,13 @@ use queues::order::Order;
 use queues::placed::Placed;
 use queues::queue::Queue;
 use queues::queue::WithdrawingQueue;
+use queues::sizes::capped;
 
 /// A queue that holds its items in order in the first cells of the memory that it is given.
 #[derive(Drop)]
 pub struct OrderedList<'a, T> {
     cells: &'a mut [T],
     len: usize,
-}
-
-/// The number, or 65,535 where that is smaller.
-fn capped(n: usize) -> u16
-    ensures { λ r. ⌜ r ≡ min n 65535 ⌝ }
-{
-    n.min(65_535) as u16
 }
 
 impl<'a, T: Order + Copy> OrderedList<'a, T> {

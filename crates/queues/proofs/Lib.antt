@@ -1,2 +1,2 @@
-pub mod Extras
 pub mod Laws
+pub mod Orders

@@ -3,7 +3,7 @@ use native.Mathlib.Omega.{arith}
 use Rattle.std.proofs.shelf.Tests.{cond-false, le-ltb}
 use Rattle.std.specs.declared.option.Option.the-variants.{Some, None}
 use Rattle.queues.specs.Items.{extra-at}
-use Rattle.queues.proofs.Extras.{same-extra}
+use Rattle.queues.proofs.Orders.{same-extra}
 use Rattle.queues.proofs.extra.Extra.new.Needs as need
 
 pub returns : need.returns

@@ -1,4 +1,4 @@
-use Rattle.queues.proofs.Extras.{extra-lawful}
+use Rattle.queues.proofs.Orders.{extra-lawful}
 use Rattle.queues.proofs.ranks.ExtraOrder.the-impl.Needs as need
 
 pub total-law : need.total-law

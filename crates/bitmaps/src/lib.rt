@@ -1,0 +1,2 @@
+// A set of levels as the bits of one number.
+pub mod bitmap;

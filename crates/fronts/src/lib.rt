@@ -1,0 +1,2 @@
+// The first item of any queue, held before it.
+pub mod front;

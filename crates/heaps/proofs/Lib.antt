@@ -1,0 +1,5 @@
+pub mod Cells
+pub mod Searching
+pub mod Sifting
+pub mod Sorting
+pub mod Steps
