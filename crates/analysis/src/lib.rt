@@ -1,4 +1,6 @@
 // Tasks, the work they do in a window, and the total of the deadline rule.
+#![tactic(auto)]
+
 pub mod count;
 pub mod lawful;
 pub mod task;

@@ -1,2 +1,4 @@
 // A set of levels as the bits of one number.
+#![tactic(auto)]
+
 pub mod bitmap;

@@ -17,7 +17,7 @@ pub struct Front<Q: Queue> {
 impl<Q: Queue> Front<Q> {
     /// An empty front on a queue, which is cleared. Its capacity is one more than the queue's.
     pub fn new(below: Q) -> Front<Q>
-        ensures good { Q.Queue.good result.below × FrontGood Item-as-Order.before result.head (Q.Queue.items result.below) }
+        ensures good { Q.Queue.good result.below × FrontGood Q.Item.Order.before result.head (Q.Queue.items result.below) }
         ensures room { Q.Queue.room result.below ≡ Q.Queue.room below }
         ensures items { front_items result.head (Q.Queue.items result.below) ≡ [] }
     {

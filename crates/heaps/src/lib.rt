@@ -23,6 +23,8 @@
 //
 // Costs, with n items: `new`, `clear`, `capacity`, `count` and `first` take one step, `take` log2 n. `put` and `withdraw`
 // first look for the item in each cell in use, n steps, since a set has no item twice; the rest is log2 n.
+#![tactic(auto)]
+
 pub mod heap;
 mod moves;
 pub mod ready;

@@ -1,4 +1,6 @@
 // The office planner: checks the task set of a sheet on standard input by the published deadline test.
+#![tactic(auto)]
+
 use anyhow::anyhow;
 use reports::answer::answer;
 use reports::reply::Answer;

@@ -1,4 +1,6 @@
 // Checking a whole list of tasks by the deadline rule.
+#![tactic(auto)]
+
 pub mod admission;
 pub mod plan;
 pub mod refusal;

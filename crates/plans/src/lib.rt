@@ -1,4 +1,6 @@
 // Checking a whole list of tasks by a counting rule.
+#![tactic(auto)]
+
 pub mod plan;
 
 #[cfg(test)]

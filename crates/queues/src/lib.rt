@@ -1,4 +1,6 @@
 // Orders, the items that queues hold, and the queue interfaces.
+#![tactic(auto)]
+
 pub mod extra;
 pub mod level;
 pub mod order;

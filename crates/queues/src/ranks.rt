@@ -2,7 +2,6 @@
 ghost use Rattle.std.specs.Prelude.{◌≡◌};
 ghost use Rattle.queues.specs.Items.{new_level, level_before, new_wake_up, wake_up_before, extra_of, extra_before};
 ghost use Rattle.queues.specs.Orders.{level_lawful, wake_up_lawful, extra_lawful};
-ghost use Rattle.std.proofs.Common.{rules, arith};
 
 use crate::extra::Extra;
 use crate::level::Level;
@@ -27,11 +26,11 @@ impl Level {
 impl Order for Level {
     ghost before = { level_before };
 
-    ghost irreflexive = { first_of (Prim.search rules, Prim.grind (arith, Self.row.coded.inj)) };
+    ghost irreflexive = { level_lawful.irreflexive };
 
-    ghost transitive = { first_of (Prim.search rules, Prim.grind (arith, Self.row.coded.inj)) };
+    ghost transitive = { level_lawful.transitive };
 
-    ghost total = { λ x y p q. level_lawful.total x y p q };
+    ghost total = { level_lawful.total };
 
     fn comes_before(&self, other: &Level) -> bool {
         self.number < other.number
@@ -57,11 +56,11 @@ impl WakeUp {
 impl Order for WakeUp {
     ghost before = { wake_up_before };
 
-    ghost irreflexive = { first_of (Prim.search rules, Prim.grind (arith, Self.row.coded.inj)) };
+    ghost irreflexive = { wake_up_lawful.irreflexive };
 
-    ghost transitive = { first_of (Prim.search rules, Prim.grind (arith, Self.row.coded.inj)) };
+    ghost transitive = { wake_up_lawful.transitive };
 
-    ghost total = { λ x y p q. wake_up_lawful.total x y p q };
+    ghost total = { wake_up_lawful.total };
 
     fn comes_before(&self, other: &WakeUp) -> bool {
         self.tick < other.tick || self.tick == other.tick && self.level < other.level
@@ -87,11 +86,11 @@ impl Extra {
 impl Order for Extra {
     ghost before = { extra_before };
 
-    ghost irreflexive = { first_of (Prim.search rules, Prim.grind (arith, Self.row.coded.inj)) };
+    ghost irreflexive = { extra_lawful.irreflexive };
 
-    ghost transitive = { first_of (Prim.search rules, Prim.grind (arith, Self.row.coded.inj)) };
+    ghost transitive = { extra_lawful.transitive };
 
-    ghost total = { λ x y p q. extra_lawful.total x y p q };
+    ghost total = { extra_lawful.total };
 
     fn comes_before(&self, other: &Extra) -> bool {
         self.amount > other.amount || self.amount == other.amount && self.level < other.level

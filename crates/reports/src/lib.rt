@@ -1,4 +1,6 @@
 // The text of the planner's answer, and the whole answer to a sheet.
+#![tactic(auto)]
+
 pub mod answer;
 pub mod reply;
 pub mod report;

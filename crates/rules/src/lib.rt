@@ -1,4 +1,6 @@
 // Counting rules, the search for a task's bound, and the bounds of a whole task set.
+#![tactic(auto)]
+
 pub mod all_carry;
 pub mod bounds;
 mod carry;

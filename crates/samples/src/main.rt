@@ -1,4 +1,6 @@
 // Drives every stack of queues with the same calls beside an independent model, and compares every answer.
+#![tactic(auto)]
+
 mod drive;
 mod item;
 mod rng;

@@ -1,4 +1,6 @@
 // The planner's sheet: reading the tasks of a flat from text.
+#![tactic(auto)]
+
 mod draft;
 pub mod entries;
 pub mod entry;
