@@ -10,8 +10,8 @@ use Rattle.analysis.proofs.Blank.{no_bounded}
 use Rattle.analysis.proofs.Counted.{plain_more, extras_more}
 use Rattle.analysis.proofs.count.count_plain.Goals as goal
 
-pub overflow-add-sum : goal.overflow-add-sum
-overflow-add-sum g c =
+pub overflow_add-sum : goal.overflow_add-sum
+overflow_add-sum g c =
     let a = plain_more c.args.task.now c.args.window c.args.others.now c.loop-other.other-index no_bounded c.requires.fits (omega arith) in
     omega (arith, a.1, c.loop-other.invariant.2, c.plain-plain.ensures)
 
@@ -26,10 +26,10 @@ loop-other-preserved g c =
     let room = g.Q.Queue.room c.loop-other.queue in
     let a = plain_more k x all i no_bounded c.requires.fits (omega arith) in
     let l = All-get_or (λ i. level_of i ≤ 63) all i no_bounded (omega arith) c.requires.fits.levels in
-    let amount : c.saturating-sub.result ≡ extra k x t = c.saturating-sub.ensures ∙ (λ j. c.carried-carried.ensures.equation j - c.plain-plain.ensures j) in
-    let put = c.put-extra.ensures.items good l in (
-      c.put-extra.ensures.good good,
-      c.put-extra.ensures.room ∙ c.loop-other.invariant.1,
+    let amount : c.saturating_sub.result ≡ extra k x t = c.saturating_sub.ensures ∙ (λ j. c.carried-carried.ensures.equation j - c.plain-plain.ensures j) in
+    let put = c.put_extra.ensures.items good l in (
+      c.put_extra.ensures.good good,
+      c.put_extra.ensures.room ∙ c.loop-other.invariant.1,
       (λ j. c.loop-other.invariant.2 j + c.plain-plain.ensures j) ∙ a.0,
       put ∙ (λ j. put_set extra_before room (extra_at (amount j) (level_of t)) (c.loop-other.invariant.3 j)) ∙ extras_more k x all i room no_bounded c.requires.fits (omega arith) (omega (arith, c.loop-other.invariant.1, c.requires.room)),
     )

@@ -11,10 +11,10 @@ use Rattle.analysis.proofs.count.take_largest.Goals.{In-Some}
 left : (g : given.Over) (c : In-Some g) → drop c.loop-done.done (g.Q.Queue.items c.args.queue.now) ≡ c.in-Some.extra ∷ rest_of (g.Q.Queue.items c.loop-done.queue)
 left g c = sym c.loop-done.invariant.2 ∙ first_some _ _ (c.in-Some.ensures.answer c.loop-done.invariant.0)
 
-pub overflow-add-sum : goal.overflow-add-sum
-overflow-add-sum g c =
+pub overflow_add-sum : goal.overflow_add-sum
+overflow_add-sum g c =
     let all = g.Q.Queue.items c.args.queue.now in
-    let a = amounts_more all c.loop-done.done c.in-Some.extra _ (left g (goal.at.overflow-add-sum g c).In-Some) in
+    let a = amounts_more all c.loop-done.done c.in-Some.extra _ (left g (goal.at.overflow_add-sum g c).In-Some) in
     let s = sum_by-take-le (λ e. e.amount) all (c.loop-done.done + 1) in
     omega (arith, a.0, c.loop-done.invariant.1, c.requires.fits)
 

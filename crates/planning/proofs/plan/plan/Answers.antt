@@ -32,7 +32,7 @@ returns-in-Ok c =
     let tasks = c.args.tasks.now in
     let told = c.in-Ok.ensures in
     let count = c.min.ensures ∙ ap (λ k. min k 8) c.max.ensures in
-    let sorted = c.as-slice.ensures.value ∙ told.1 in
+    let sorted = c.as_slice.ensures.value ∙ told.1 in
     let v = IfOk-weaker c.judge.result _ (λ p. p.verdict ≡ plan_verdict n tasks) (λ p e. e ∙ verdict_same n _ tasks _ count sorted told.0) c.judge.ensures.verdict in
     record {
       rows = IfOk-weaker c.judge.result _ (λ p. vec_items p.rows ≡ plan_rows n tasks) (λ p e. e ∙ rows_same n _ tasks _ count sorted told.0) c.judge.ensures.rows;

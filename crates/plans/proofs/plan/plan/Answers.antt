@@ -57,7 +57,7 @@ returns-in-Ok g c =
     let tasks = c.args.tasks.now in
     let told = c.in-Ok.ensures in
     let count = c.min.ensures ∙ ap (λ k. min k 8) c.max.ensures in
-    let sorted = c.as-mut-slice.ensures.value ∙ told.1 in
+    let sorted = c.as_mut_slice.ensures.value ∙ told.1 in
     let rs = IfOk-weaker c.judge.result _ (λ p. vec_items p.rows ≡ plan_rows r n tasks) (λ p e. e ∙ rows_same r n tasks _ _ count sorted told.0) c.judge.ensures.rows in
     let v = IfOk-weaker c.judge.result _ (λ p. p.verdict ≡ plan_verdict r n tasks) (λ p e. e ∙ verdict_same r n tasks _ _ count sorted told.0) c.judge.ensures.verdict in
     record {

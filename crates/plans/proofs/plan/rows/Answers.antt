@@ -20,7 +20,7 @@ loop-i-preserved g c =
     let rows = vec_items c.loop-i.rows in
     let z : i - 0 ≡ i = omega arith in
     let total = c.total-total.ensures ∙ ap (λ n. r.total task.task (take n set) m task.bound) z in
-    let pushed = c.in-ok-push.ensures.items ∙ ap (λ t. rows ++ record { task = task.task; total = t; bound = task.bound } ∷ []) total in
+    let pushed = c.in_ok-push.ensures.items ∙ ap (λ t. rows ++ record { task = task.task; total = t; bound = task.bound } ∷ []) total in
     ap (λ rs. rs ++ rows_from r m (take (i + 1) set) (drop (i + 1) set)) pushed
     ∙ sym (rows_more r m rows set i no_bounded (omega arith))
     ∙ c.loop-i.invariant

@@ -8,13 +8,13 @@ use Rattle.rules.proofs.Rebounds.{rebounded, set_kept, rebound_turn, rebound_sto
 use Rattle.rules.proofs.bounds.rebound.Given as given
 use Rattle.rules.proofs.bounds.rebound.Goals as goal
 
-pub returns-in-default : goal.returns-in-default
-returns-in-default g c =
+pub returns-in_default : goal.returns-in_default
+returns-in_default g c =
     let r = g.R.CountingRule.rule c.args.rule.now in
     let m = c.args.cores in
     let o = rebound r m (take c.args.from c.args.set.now) (drop c.args.from c.args.set.now) in
     let z : c.loop-place.place - 0 ≡ c.loop-place.place = omega arith in
-    let none = rw z at c.in-default.ensures.equation in
+    let none = rw z at c.in_default.ensures.equation in
     let e = rebound_stop r m c.loop-place.set c.loop-place.place no_bounded (omega arith) o c.loop-place.invariant.1 (sym none) in
     record { answer = e.0; set = e.1; bounds = rebounded r m _ _; kept = λ f k ok. let y : ◌≡◌ {A = ℕ} 0 1 = cc in absurd (omega arith) }
 

@@ -5,8 +5,8 @@ use Rattle.rules.specs.Rules.{all_carried}
 use Rattle.rules.specs.Carrying.{carried_more}
 use Rattle.rules.proofs.carry.sum_carried.Goals as goal
 
-pub overflow-add-sum : goal.overflow-add-sum
-overflow-add-sum c =
+pub overflow_add-sum : goal.overflow_add-sum
+overflow_add-sum c =
     let m = carried_more c.args.task.now c.args.window c.args.above.now c.loop-other.other-index no_bounded c.requires (omega arith) in
     omega (arith, m.0, m.1, c.loop-other.invariant, c.carried-sum.ensures.equation)
 

@@ -6,8 +6,8 @@ use Rattle.sheets.proofs.Pieces.{no_text}
 use Rattle.sheets.proofs.Said.{first_word, unknown_word}
 use Rattle.sheets.proofs.entries.entry_of.Goals as goal
 
-pub returns-in-empty : goal.returns-in-empty
-returns-in-empty c =
+pub returns-in_empty : goal.returns-in_empty
+returns-in_empty c =
     let none : length c.args.words.now ≡ 0 = search rules in
     ap (λ l. words_entry (texts l)) (sym (nil_from_length c.args.words.now none))
 
@@ -26,8 +26,8 @@ returns-in-task c =
     let some : 0 < length c.args.words.now = search rules in
     c.task_entry.ensures ∙ first_word c.args.words.now some (codes "task") c.in-task.is-task
 
-pub returns-in-default : goal.returns-in-default
-returns-in-default c =
+pub returns-in_default : goal.returns-in_default
+returns-in_default c =
     let some : 0 < length c.args.words.now = search rules in
     let cores : (get_or c.args.words.now 0 no_text).now ≡ codes "cores" → ⊥ = search rules in
     let rule : (get_or c.args.words.now 0 no_text).now ≡ codes "rule" → ⊥ = search rules in

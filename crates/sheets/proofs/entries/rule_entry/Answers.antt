@@ -3,13 +3,13 @@ use Rattle.sheets.proofs.Pieces.{no_text}
 use Rattle.sheets.proofs.Said.{too_few, too_many, rule_known, rule_unknown}
 use Rattle.sheets.proofs.entries.rule_entry.Goals as goal
 
-pub returns-in-empty : goal.returns-in-empty
-returns-in-empty c =
+pub returns-in_empty : goal.returns-in_empty
+returns-in_empty c =
     let less : length c.args.words.now < 1 = search rules in
     too_few c.args.words.now 1 _ less
 
-pub returns-in-default : goal.returns-in-default
-returns-in-default c =
+pub returns-in_default : goal.returns-in_default
+returns-in_default c =
     let more : 1 < length c.args.words.now = search rules in
     too_many c.args.words.now 1 _ more
 

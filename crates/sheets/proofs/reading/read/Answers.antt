@@ -9,15 +9,15 @@ loop-i-init c = none_yet (texts c.deref-line-items.result.now) c.new-draft.resul
 
 pub loop-i-preserved : goal.loop-i-preserved
 loop-i-preserved c =
-    line_passed c.deref-line-items.result.now c.loop-i.i c.loop-i.draft c.loop-i.invariant _ 0 c.loop-i-test.true (c.in-ok-enter.ensures _ c.loop-i.invariant.holds)
+    line_passed c.deref-line-items.result.now c.loop-i.i c.loop-i.draft c.loop-i.invariant _ 0 c.loop-i-test.true (c.in_ok-enter.ensures _ c.loop-i.invariant.holds)
 
-pub returns-in-err-enter : goal.returns-in-err-enter
-returns-in-err-enter c =
-    let same = ap texts c.deref-line-items.ensures.value ∙ c.in-ok-lines.ensures in
-    let p = err_from_is_err_and c.from-residual-in-err-enter.result c.from-residual-in-err-enter.ensures.1 in
-    rw (p.1, p.2) (line_refused c.deref-line-items.result.now c.loop-i.i c.loop-i.draft c.loop-i.invariant c.args.text.now same c.enter.new.self c.in-err-enter.field-0.0 c.loop-i-test.true (c.in-err-enter.ensures _ c.loop-i.invariant.holds))
+pub returns-in_err-enter : goal.returns-in_err-enter
+returns-in_err-enter c =
+    let same = ap texts c.deref-line-items.ensures.value ∙ c.in_ok-lines.ensures in
+    let p = err_from_is_err_and c.from_residual-in_err-enter.result c.from_residual-in_err-enter.ensures.1 in
+    rw (p.1, p.2) (line_refused c.deref-line-items.result.now c.loop-i.i c.loop-i.draft c.loop-i.invariant c.args.text.now same c.enter.new.self c.in_err-enter.field-0.0 c.loop-i-test.true (c.in_err-enter.ensures _ c.loop-i.invariant.holds))
 
 pub returns : goal.returns
 returns c =
-    let same = ap texts c.deref-line-items.ensures.value ∙ c.in-ok-lines.ensures in
+    let same = ap texts c.deref-line-items.ensures.value ∙ c.in_ok-lines.ensures in
     lines_read c.deref-line-items.result.now c.loop-i.i c.loop-i.draft c.loop-i.invariant c.args.text.now same c.len.result c.finish.result c.loop-i-test.false (omega (arith, c.len.ensures, c.deref-line-items.ensures.len)) c.finish.ensures

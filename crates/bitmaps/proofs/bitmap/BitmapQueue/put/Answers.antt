@@ -9,7 +9,7 @@ use Rattle.bitmaps.proofs.bitmap.BitmapQueue.put.Goals as goal
 pub returns : goal.returns
 returns c =
     let s = levels_in c.args.self.now.bits in
-    let lacks = sym c.if-is-set.ensures in
+    let lacks = sym c.if-is_set.ensures in
     record {
       good = λ h. omega arith;
       room = refl;

@@ -5,9 +5,9 @@ use Rattle.queues.specs.Orders.{level_lawful}
 use Rattle.queues.specs.Items.{level_before}
 use Rattle.bitmaps.proofs.bitmap.BitmapWithdrawingQueue.withdraw.Goals as goal
 
-pub returns-then-not-is-set : goal.returns-then-not-is-set
-returns-then-not-is-set c =
-    let lacks = c.if-not-is-set.ensures in
+pub returns-then-not-is_set : goal.returns-then-not-is_set
+returns-then-not-is_set c =
+    let lacks = c.if-not-is_set.ensures in
     record {
       good = λ h. h;
       room = refl;

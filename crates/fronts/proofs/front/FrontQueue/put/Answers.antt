@@ -7,10 +7,10 @@ use Rattle.fronts.proofs.front.FrontQueue.put.Goals as goal
 order : (g : given.Over) → Lawful g.Q.Item.Order.before
 order g = record { irreflexive = g.met.Q.Item.Order.irreflexive; transitive = g.met.Q.Item.Order.transitive; total = g.met.Q.Item.Order.total }
 
-pub returns-then-comes-before : goal.returns-then-comes-before
-returns-then-comes-before g c =
+pub returns-then-comes_before : goal.returns-then-comes_before
+returns-then-comes_before g c =
     let told = c.put.ensures in
-    let owed = λ (good : g.Q.Queue.good c.args.self.now.below). put_behind g.Q.Item.Order.before (order g) _ c.in-Some.head c.args.item _ _ _ _ c.in-Some.is c.if-comes-before.ensures (told.items good) (told.answer good) in
+    let owed = λ (good : g.Q.Queue.good c.args.self.now.below). put_behind g.Q.Item.Order.before (order g) _ c.in-Some.head c.args.item _ _ _ _ c.in-Some.is c.if-comes_before.ensures (told.items good) (told.answer good) in
     record {
       good = λ good. (told.good good.0, (owed good.0 good.1).0);
       room = ap suc told.room;
@@ -20,8 +20,8 @@ returns-then-comes-before g c =
 
 pub returns-in-Added : goal.returns-in-Added
 returns-in-Added g c =
-    let told = c.put_answer.ensures in
-    let owed = λ (good : g.Q.Queue.good c.args.self.now.below). put_before g.Q.Item.Order.before (order g) _ c.in-Some.head c.args.item _ _ _ _ c.in-Some.is c.if-not-comes-before.ensures c.in-Added.is (told.items good) (told.answer good) in
+    let told = c.put-answer.ensures in
+    let owed = λ (good : g.Q.Queue.good c.args.self.now.below). put_before g.Q.Item.Order.before (order g) _ c.in-Some.head c.args.item _ _ _ _ c.in-Some.is c.if-not-comes_before.ensures c.in-Added.is (told.items good) (told.answer good) in
     record {
       good = λ good. (told.good good.0, (owed good.0 good.1).0);
       room = ap suc told.room;
@@ -29,10 +29,10 @@ returns-in-Added g c =
       items = λ good. (owed good.0 good.1).2;
     }
 
-pub returns-in-default-answer : goal.returns-in-default-answer
-returns-in-default-answer g c =
-    let told = c.put_answer.ensures in
-    let owed = λ (good : g.Q.Queue.good c.args.self.now.below). put_refused g.Q.Item.Order.before (order g) _ c.in-Some.head c.args.item _ _ _ _ c.in-Some.is c.if-not-comes-before.ensures c.in-default-answer.not-Added (told.items good) (told.answer good) in
+pub returns-in_default-answer : goal.returns-in_default-answer
+returns-in_default-answer g c =
+    let told = c.put-answer.ensures in
+    let owed = λ (good : g.Q.Queue.good c.args.self.now.below). put_refused g.Q.Item.Order.before (order g) _ c.in-Some.head c.args.item _ _ _ _ c.in-Some.is c.if-not-comes_before.ensures c.in_default-answer.not-Added (told.items good) (told.answer good) in
     record {
       good = λ good. (told.good good.0, (owed good.0 good.1).0);
       room = ap suc told.room;
