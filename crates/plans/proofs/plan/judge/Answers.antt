@@ -14,17 +14,17 @@ told : (g : given.Over) (c : In-Err g) → Told (found g c) c.in-Err.field-0.pla
 unfolding found
 told g c = told_from (found g c) c.in-Err.field-0.place c.in-Err.field-0.level c.rebound.new.set c.in-Err.ensures.answer c.in-Err.ensures.set
 
-pub slice-bounds-rows-end : goal.slice-bounds-rows-end
-slice-bounds-rows-end g c = (told g (goal.at.slice-bounds-rows-end g c).In-Err).within
+pub slice_bounds-rows-end : goal.slice_bounds-rows-end
+slice_bounds-rows-end g c = (told g (goal.at.slice_bounds-rows-end g c).In-Err).within
 
-pub returns-in_ok-rows-2 : goal.returns-in_ok-rows-2
+pub returns-in_ok-rows-in-Err : goal.returns-in_ok-rows-in-Err
 unfolding found
-returns-in_ok-rows-2 g c =
-    let t = told g (goal.at.returns-in_ok-rows-2 g c).In-Err in
+returns-in_ok-rows-in-Err g c =
+    let t = told g (goal.at.returns-in_ok-rows-in-Err g c).In-Err in
     let r = g.R.CountingRule.rule c.args.rule.now in
     let place = c.in-Err.field-0.place in
     let z : place - 0 ≡ place = omega arith in
     record {
-      rows = c.in_ok-rows-2.ensures ∙ ap (λ n. rows_from r c.args.cores [] (take n c.rebound.new.set)) z ∙ ap (rows_from r c.args.cores []) t.front;
+      rows = c.in_ok-rows-in-Err.ensures ∙ ap (λ n. rows_from r c.args.cores [] (take n c.rebound.new.set)) z ∙ ap (rows_from r c.args.cores []) t.front;
       verdict = t.refused;
     }

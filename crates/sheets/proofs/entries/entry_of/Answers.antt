@@ -6,8 +6,8 @@ use Rattle.sheets.proofs.Pieces.{no_text}
 use Rattle.sheets.proofs.Said.{first_word, unknown_word}
 use Rattle.sheets.proofs.entries.entry_of.Goals as goal
 
-pub returns-in_empty : goal.returns-in_empty
-returns-in_empty c =
+pub returns-in-empty : goal.returns-in-empty
+returns-in-empty c =
     let none : length c.args.words.now ≡ 0 = search rules in
     ap (λ l. words_entry (texts l)) (sym (nil_from_length c.args.words.now none))
 

@@ -3,8 +3,8 @@ use Rattle.sheets.proofs.Pieces.{no_text}
 use Rattle.sheets.proofs.Said.{too_few, too_many, rule_known, rule_unknown}
 use Rattle.sheets.proofs.entries.rule_entry.Goals as goal
 
-pub returns-in_empty : goal.returns-in_empty
-returns-in_empty c =
+pub returns-in-empty : goal.returns-in-empty
+returns-in-empty c =
     let less : length c.args.words.now < 1 = search rules in
     too_few c.args.words.now 1 _ less
 

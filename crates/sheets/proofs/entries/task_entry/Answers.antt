@@ -7,29 +7,29 @@ use Rattle.sheets.proofs.entries.task_entry.Goals.{In-len4}
 four : (c : In-len4) → length c.args.words.now ≡ 4
 four c = search rules
 
-pub returns-in_err-level : goal.returns-in_err-level
-returns-in_err-level c =
+pub returns-in_err-level-in-len4 : goal.returns-in_err-level-in-len4
+returns-in_err-level-in-len4 c =
     let p = err_from_is_err_and c.from_residual.result c.from_residual.ensures.1 in
-    p.1 ∙ ap Err p.2 ∙ task_told c.args.words.now (four (goal.at.returns-in_err-level c).In-len4) (Err _) _ _ _ c.in_err-level.ensures refl refl refl
+    p.1 ∙ ap Err p.2 ∙ task_told c.args.words.now (four (goal.at.returns-in_err-level-in-len4 c).In-len4) (Err _) _ _ _ c.in_err-level-in-len4.ensures refl refl refl
 
-pub returns-in_err-run : goal.returns-in_err-run
-returns-in_err-run c =
-    let p = err_from_is_err_and c.from_residual-in_err-run.result c.from_residual-in_err-run.ensures.1 in
-    p.1 ∙ ap Err p.2 ∙ task_told c.args.words.now (four (goal.at.returns-in_err-run c).In-len4) (Ok _) (Err _) _ _ c.in_ok-level.ensures c.in_err-run.ensures refl refl
+pub returns-in_err-run-in-len4 : goal.returns-in_err-run-in-len4
+returns-in_err-run-in-len4 c =
+    let p = err_from_is_err_and c.from_residual-in_err-run-in-len4.result c.from_residual-in_err-run-in-len4.ensures.1 in
+    p.1 ∙ ap Err p.2 ∙ task_told c.args.words.now (four (goal.at.returns-in_err-run-in-len4 c).In-len4) (Ok _) (Err _) _ _ c.in_ok-level-in-len4.ensures c.in_err-run-in-len4.ensures refl refl
 
-pub returns-in_err-deadline : goal.returns-in_err-deadline
-returns-in_err-deadline c =
-    let p = err_from_is_err_and c.from_residual-in_err-deadline.result c.from_residual-in_err-deadline.ensures.1 in
-    p.1 ∙ ap Err p.2 ∙ task_told c.args.words.now (four (goal.at.returns-in_err-deadline c).In-len4) (Ok _) (Ok _) (Err _) _ c.in_ok-level.ensures c.in_ok-run.ensures c.in_err-deadline.ensures refl
+pub returns-in_err-deadline-in-len4 : goal.returns-in_err-deadline-in-len4
+returns-in_err-deadline-in-len4 c =
+    let p = err_from_is_err_and c.from_residual-in_err-deadline-in-len4.result c.from_residual-in_err-deadline-in-len4.ensures.1 in
+    p.1 ∙ ap Err p.2 ∙ task_told c.args.words.now (four (goal.at.returns-in_err-deadline-in-len4 c).In-len4) (Ok _) (Ok _) (Err _) _ c.in_ok-level-in-len4.ensures c.in_ok-run-in-len4.ensures c.in_err-deadline-in-len4.ensures refl
 
-pub returns-in_err-gap : goal.returns-in_err-gap
-returns-in_err-gap c =
-    let p = err_from_is_err_and c.from_residual-in_err-gap.result c.from_residual-in_err-gap.ensures.1 in
-    p.1 ∙ ap Err p.2 ∙ task_told c.args.words.now (four (goal.at.returns-in_err-gap c).In-len4) (Ok _) (Ok _) (Ok _) (Err _) c.in_ok-level.ensures c.in_ok-run.ensures c.in_ok-deadline.ensures c.in_err-gap.ensures
+pub returns-in_err-gap-in-len4 : goal.returns-in_err-gap-in-len4
+returns-in_err-gap-in-len4 c =
+    let p = err_from_is_err_and c.from_residual-in_err-gap-in-len4.result c.from_residual-in_err-gap-in-len4.ensures.1 in
+    p.1 ∙ ap Err p.2 ∙ task_told c.args.words.now (four (goal.at.returns-in_err-gap-in-len4 c).In-len4) (Ok _) (Ok _) (Ok _) (Err _) c.in_ok-level-in-len4.ensures c.in_ok-run-in-len4.ensures c.in_ok-deadline-in-len4.ensures c.in_err-gap-in-len4.ensures
 
-pub returns-in_ok-gap : goal.returns-in_ok-gap
-returns-in_ok-gap c =
-    task_told c.args.words.now (four (goal.at.returns-in_ok-gap c).In-len4) (Ok _) (Ok _) (Ok _) (Ok _) c.in_ok-level.ensures c.in_ok-run.ensures c.in_ok-deadline.ensures c.in_ok-gap.ensures
+pub returns-in_ok-gap-in-len4 : goal.returns-in_ok-gap-in-len4
+returns-in_ok-gap-in-len4 c =
+    task_told c.args.words.now (four (goal.at.returns-in_ok-gap-in-len4 c).In-len4) (Ok _) (Ok _) (Ok _) (Ok _) c.in_ok-level-in-len4.ensures c.in_ok-run-in-len4.ensures c.in_ok-deadline-in-len4.ensures c.in_ok-gap-in-len4.ensures
 
 pub returns-in_default : goal.returns-in_default
 returns-in_default c =

@@ -8,5 +8,5 @@ returns-in_default c =
     let w = c.args.word.now in
     let a : w ≡ codes "response" → ⊥ = search rules in
     let b : w ≡ codes "deadline" → ⊥ = search rules in
-    let d : w ≡ codes "all_carry" → ⊥ = search rules in
-    sym (cond-false _ _ _ (other w (codes "response") a) ∙ cond-false _ _ _ (other w (codes "deadline") b) ∙ cond-false _ _ _ (other w (codes "all_carry") d))
+    let d : w ≡ codes "all-carry" → ⊥ = search rules in
+    sym (cond-false _ _ _ (other w (codes "response") a) ∙ cond-false _ _ _ (other w (codes "deadline") b) ∙ cond-false _ _ _ (other w (codes "all-carry") d))
