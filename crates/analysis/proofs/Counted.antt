@@ -1,9 +1,9 @@
 -- One task more in the count. Assumes nothing.
-use Rattle.std.proofs.Common.{◌≡◌, ℕ, zero, suc, ◌+◌, ◌*◌, ◌^◌, ◌<◌, ◌≤◌, Bool, true, false, cond, not, ◌&&◌, ◌||◌, eqb, ltb, List, [], ◌∷◌, ◌++◌, map, length, get_or, take, drop, sum_by, sum, sym, refl, ap, ◌∙◌, arith}
+use Rattle.std.proofs.Common.{◌≡◌, ℕ, zero, suc, ◌+◌, ◌^◌, ◌<◌, ◌≤◌, Bool, true, false, cond, not, eqb, List, [], ◌∷◌, map, length, get_or, take, drop, sum_by, sum, sym, refl, ap, ◌∙◌, arith}
 use Rattle.std.proofs.ByRecursion.{All-get_or, All-take, All-weaker, sum_by_le}
 use Rattle.std.proofs.lemmas.List.{map_more, length-take-le, length-map, length-drop, drop_more, take_all, take-map}
 use Rattle.std.proofs.lemmas.List.Sums.{sum_by_more, sum_by-take-le, sum_by-cons, sum-map}
-use Rattle.std.proofs.lemmas.Bool.{and_parts, or_parts, or_from, not-true, cond-false, ne_eqb, eqb-false}
+use Rattle.std.proofs.lemmas.Bool.{and_parts, or_parts, or_from, not-true, cond-false, ne_eqb}
 use Rattle.std.proofs.lemmas.Bool.Decides.{nat_tests}
 use Rattle.std.specs.List.{AllByRecursion as All}
 use Rattle.queues.specs.Orders.{extra_lawful}

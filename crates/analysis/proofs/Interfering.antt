@@ -1,8 +1,8 @@
 -- Laws of the interference. Assumes nothing.
-use Rattle.std.proofs.Common.{◌≡◌, ℕ, ◌+◌, ◌-◌, ◌<◌, ◌≤◌, Bool, true, false, ltb, List, [], ◌∷◌, map, length, get_or, take, set, sum_by, sum, filter, sym, refl, ap, ◌∙◌, arith}
-use Rattle.std.proofs.lemmas.List.{get_or-map, length-map, length-set, map-set}
+use Rattle.std.proofs.Common.{◌≡◌, ℕ, ◌+◌, ◌-◌, ◌<◌, ◌≤◌, List, [], ◌∷◌, map, length, get_or, take, set, sum_by, sum, sym, refl, ap, ◌∙◌, arith}
+use Rattle.std.proofs.lemmas.List.{get_or-map, length-map, map-set}
 use Rattle.std.proofs.lemmas.List.Sorted.{IsPermutation-keeps, sum_by-IsPermutation}
-use Rattle.std.proofs.lemmas.List.Sums.{sum-map, sum_by-cons, sum_by-take-le}
+use Rattle.std.proofs.lemmas.List.Sums.{sum-map, sum_by-cons}
 use Rattle.std.proofs.lemmas.Bool.Decides.{nat_tests}
 use Rattle.std.specs.List.{swap, AllByRecursion as All}
 use Rattle.std.specs.List.Sorted.{IsPermutation}
@@ -10,10 +10,10 @@ use Rattle.queues.specs.Sets.{Lawful, sort}
 use Rattle.heaps.proofs.Sorting.{sort_swap}
 use Rattle.analysis.specs.declared.task.Task.{Task}
 use Rattle.analysis.specs.declared.task.BoundedTask.{BoundedTask}
-use Rattle.analysis.specs.Interference.{larger, sum_largest, extra, interference, distinct, level_of}
-use Rattle.analysis.specs.Laws.{InterferenceLaws, Worst, Few, load}
+use Rattle.analysis.specs.Interference.{larger, sum_largest, extra, interference, level_of}
+use Rattle.analysis.specs.Laws.{InterferenceLaws}
 use Rattle.analysis.specs.Work.{plain, carried}
-use Rattle.analysis.proofs.Largest.{best, best_le_sum, largest_best, chosen_best, best_reached, Reached}
+use Rattle.analysis.proofs.Largest.{best, best_le_sum, largest_best, chosen_best, best_reached}
 
 larger_lawful : Lawful larger
 larger_lawful = record {

@@ -1,5 +1,5 @@
 -- Sets of levels as binary digits. Assumes nothing.
-use Rattle.std.proofs.Common.{◌≡◌, ℕ, zero, suc, ◌+◌, ◌-◌, ◌*◌, ◌/◌, ◌%◌, ◌^◌, ◌<◌, ◌≤◌, Bool, true, false, cond, eqb, List, [], ◌∷◌, length, Some, sym, refl, ap, ◌∙◌, subst, mod-lt, arith}
+use Rattle.std.proofs.Common.{◌≡◌, ℕ, zero, suc, ◌+◌, ◌-◌, ◌/◌, ◌%◌, ◌^◌, ◌<◌, ◌≤◌, Bool, true, false, cond, eqb, List, [], ◌∷◌, length, Some, sym, refl, ap, ◌∙◌, mod-lt, arith}
 use lib.Bits.{bit_and, bit_or, bit_xor, and_step, and_zero_r, or_disjoint, or_lt, xor_add_and}
 use lib.Count.{ones, ones_in, ones_step, ones-le, count_trailing_zeros, under}
 use Rattle.bitmaps.specs.Bitmaps.{odd, digit, levels_from, levels_in}

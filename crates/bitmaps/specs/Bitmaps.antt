@@ -1,5 +1,5 @@
 -- A set of levels as the binary digits of a number, the lowest digit first.
-use Rattle.std.specs.Prelude.{ℕ, zero, suc, ◌/◌, ◌%◌, Bool, true, false, cond, List, [], ◌∷◌, ◌==◌}
+use Rattle.std.specs.Prelude.{ℕ, zero, suc, ◌/◌, ◌%◌, Bool, cond, List, [], ◌∷◌, ◌==◌}
 use Rattle.queues.specs.Items.{level_at}
 use Rattle.queues.specs.declared.level.Level.{Level}
 

@@ -1,9 +1,9 @@
 -- Putting an item into a set whose first item is held in front. Assumes nothing.
-use Rattle.std.proofs.Common.{◌≡◌, ℕ, suc, Bool, true, false, cond, eqb, List, [], ◌∷◌, length, Some, Option, sym, refl, ap, ◌∙◌, subst, arith}
+use Rattle.std.proofs.Common.{◌≡◌, ℕ, suc, Bool, true, false, cond, eqb, List, ◌∷◌, length, Some, Option, sym, refl, ap, ◌∙◌, subst, arith}
 use Rattle.queues.proofs.Laws.{asym, insert_ahead, ahead_insert, ahead_remove, ahead_trans, ahead_lacks, remove_none, sorted_insert, sorted_remove}
-use Rattle.queues.specs.Sets.{Lawful, same, has, insert, remove, Ahead, Sorted, put_answer, put_set}
+use Rattle.queues.specs.Sets.{Lawful, has, insert, remove, Ahead, Sorted, put_answer, put_set}
 use Rattle.queues.specs.declared.placed.Placed.{Placed}
-use Rattle.queues.specs.declared.placed.Placed.TheVariants.{Added, Held, Full}
+use Rattle.queues.specs.declared.placed.Placed.TheVariants.{Added}
 use Rattle.std.proofs.lemmas.Bool.Decides.{nat_tests}
 use Rattle.fronts.specs.Fronts.{FrontGood, front_items}
 

@@ -1,14 +1,12 @@
 -- The deadline rule is the published test. Assumes nothing.
-use Rattle.std.proofs.Common.{◌≡◌, ℕ, ◌+◌, ◌-◌, ◌*◌, ◌/◌, ◌%◌, ◌<◌, ◌≤◌, min, Bool, true, false, cond, leb, List, [], ◌∷◌, ◌++◌, map, length, sum_by, filter, sym, refl, ap, ◌∙◌, subst, ⊎_elim, mul_comm, div-lt_iff_lt-mul, div-add-mod', arith}
-use Rattle.std.proofs.lemmas.List.{append_assoc, map-append}
+use Rattle.std.proofs.Common.{◌≡◌, ℕ, ◌+◌, ◌-◌, ◌*◌, ◌/◌, ◌%◌, ◌<◌, ◌≤◌, min, true, false, List, [], ◌∷◌, map, sum_by, sym, refl, ap, ◌∙◌, subst, ⊎_elim, mul_comm, div-lt_iff_lt-mul, div-add-mod', arith}
 use Rattle.std.proofs.lemmas.List.Sums.{sum_by-cons}
 use Rattle.std.proofs.lemmas.Bool.{leb-true, leb-false, le-leb, cond-true, cases_lt}
 use Rattle.analysis.specs.declared.task.Task.{Task}
-use Rattle.analysis.specs.declared.task.BoundedTask.{BoundedTask}
 use Rattle.planning.specs.Admission.{task_level}
-use Rattle.analysis.specs.Interference.{extra, interference, lawful, passes, sum_largest, distinct, total}
+use Rattle.analysis.specs.Interference.{extra, interference, lawful, total}
 use Rattle.planning.specs.Plans.{at_deadline, all_at_deadline, row_passes, row_total}
-use Rattle.planning.specs.Published.{i_nc, i_ci, jobs, chosen, load, limit, Satisfies}
+use Rattle.planning.specs.Published.{i_nc, i_ci, load, limit, Satisfies}
 use Rattle.analysis.specs.Work.{amount, plain, carried, cap}
 use Rattle.analysis.proofs.Facts.{limits_from}
 use Rattle.analysis.proofs.Largest.{best, largest_best, chosen_best, best_reached, Reached}

@@ -1,21 +1,19 @@
 -- A list of tasks without fault, sorted: each task can be judged against those before it. Assumes nothing.
-use Rattle.std.proofs.Common.{◌≡◌, ℕ, suc, ◌+◌, ◌<◌, ◌≤◌, Bool, true, false, cond, not, ◌&&◌, ◌||◌, eqb, ltb, leb, List, [], ◌∷◌, ◌++◌, map, length, Some, None, Option, sym, refl, ap, ◌∙◌, arith}
+use Rattle.std.proofs.Common.{◌≡◌, ℕ, ◌+◌, ◌<◌, ◌≤◌, Bool, true, false, cond, not, ◌&&◌, ◌||◌, eqb, List, [], ◌∷◌, ◌++◌, length, Some, None, Option, sym, refl, ap, ◌∙◌, arith}
 use Rattle.queues.proofs.Laws.{length_sort}
-use Rattle.queues.specs.Sets.{insert, sort}
-use Rattle.std.proofs.ByRecursion.{All-append, All-push, All-weaker}
-use Rattle.std.proofs.lemmas.List.{length-append, length-map, length_push}
+use Rattle.queues.specs.Sets.{insert}
+use Rattle.std.proofs.ByRecursion.{All-push, All-weaker}
+use Rattle.std.proofs.lemmas.List.{length-map, length_push}
 use Rattle.std.proofs.lemmas.Bool.{and_from, and_parts, or_parts, or_from, not-true, not_from_false, le-leb, lt-ltb, ltb-true, ltb-false, eqb-false, ne_eqb}
 use Rattle.std.proofs.lemmas.Bool.Decides.{nat_tests}
 use Rattle.std.specs.List.{AllByRecursion as All}
-use Rattle.planning.specs.declared.refusal.Refusal.{Refusal}
 use Rattle.analysis.specs.declared.task.Task.{Task}
-use Rattle.analysis.specs.declared.task.BoundedTask.{BoundedTask}
 use Rattle.planning.specs.Admission.{task_level, task_fault, or_else, first_fault, more_urgent, by_level}
-use Rattle.analysis.specs.Interference.{above, all_above, taken, distinct, level_of, lawful, numbers_fit}
+use Rattle.analysis.specs.Interference.{all_above, taken, distinct, level_of, lawful, numbers_fit}
 use Rattle.planning.specs.Plans.{at_deadline, all_at_deadline}
 use Rattle.analysis.specs.Tasks.{within_limits, bound_fits}
-use Rattle.analysis.proofs.Facts.{Limits, limits_from}
-use Rattle.planning.proofs.Urgency.{Faultless, faultless_from, taken_sort}
+use Rattle.analysis.proofs.Facts.{limits_from}
+use Rattle.planning.proofs.Urgency.{faultless_from, taken_sort}
 
 abbrev Fits : Task → Type 0
 Fits k = within_limits k ≡ true

@@ -1,5 +1,5 @@
 -- The rows of a task set under the deadline rule, and the verdict on it.
-use Rattle.std.specs.Prelude.{ℕ, min, max, Bool, true, false, cond, List, [], ◌∷◌, ◌++◌, map, Some, None, Option}
+use Rattle.std.specs.Prelude.{ℕ, min, max, Bool, cond, List, [], ◌∷◌, ◌++◌, map, Some, None, Option}
 use Rattle.planning.specs.declared.refusal.Refusal.{Refusal}
 use Rattle.planning.specs.declared.refusal.Refusal.TheVariants.{NoBound}
 use Rattle.analysis.specs.declared.task.Task.{Task}

@@ -1,5 +1,5 @@
 -- What a plan promises. Assumes nothing.
-use Rattle.std.proofs.Common.{◌≡◌, ℕ, ◌+◌, ◌<◌, ◌≤◌, List, [], ◌∷◌, ◌++◌, map, length, get_or, take, drop, Some, None, Ok, Err, Option, Result, sym, refl, ap, ◌∙◌, subst, arith}
+use Rattle.std.proofs.Common.{◌≡◌, ℕ, ◌+◌, ◌<◌, ◌≤◌, List, [], ◌∷◌, ◌++◌, length, get_or, take, drop, Some, None, Ok, Err, Option, Result, sym, refl, ap, ◌∙◌, subst, arith}
 use Rattle.std.proofs.lemmas.List.{append_assoc, append-nil, length-append, map-append, drop_more, take_at, take_more}
 use Rattle.planning.specs.declared.refusal.Refusal.{Refusal}
 use Rattle.planning.specs.declared.refusal.Refusal.TheVariants.{NoBound}
@@ -13,10 +13,9 @@ use Rattle.rules.specs.Rules.{Rule, LawfulRule}
 use Rattle.rules.proofs.Rebounds.{rebounded, rebound_keeps}
 use Rattle.schedule.proofs.Sound.{punctual_from}
 use Rattle.planning.specs.declared.verdict.Row.{Row}
-use Rattle.planning.specs.declared.verdict.Verdict.{Verdict}
 use Rattle.planning.specs.declared.verdict.Verdict.TheVariants.{Accepted, Refused}
 use Rattle.planning.specs.Admission.{first_fault, by_level}
-use Rattle.planning.specs.Plans.{at_deadline, all_at_deadline, rows_after, verdict_after}
+use Rattle.planning.specs.Plans.{all_at_deadline, rows_after, verdict_after}
 use Rattle.plans.specs.Plans.{row_of, rows_from, verdict_on}
 use Rattle.plans.specs.Promises.{Promised, Accepting, Unbounded, shown}
 use Rattle.plans.proofs.Verdicts.{first_fault_kind, refused_not_accepted, same_refused}

@@ -1,17 +1,16 @@
 -- The verdict on a whole set is that of the published test. Assumes nothing.
-use Rattle.std.proofs.Common.{◌≡◌, ℕ, ◌+◌, ◌-◌, ◌<◌, ◌≤◌, Bool, true, false, cond, List, [], ◌∷◌, ◌++◌, map, length, Some, None, Option, sym, refl, ap, ◌∙◌, subst, arith}
+use Rattle.std.proofs.Common.{◌≡◌, ℕ, ◌+◌, ◌-◌, ◌≤◌, Bool, true, false, cond, List, [], ◌∷◌, ◌++◌, length, Some, None, Option, sym, refl, ap, ◌∙◌, subst, arith}
 use Rattle.std.proofs.lemmas.List.{append_assoc, append-nil, map-append}
 use Rattle.std.proofs.lemmas.Bool.{cond-true, cond-false, and_from, le-leb}
 use Rattle.planning.specs.declared.refusal.Refusal.{Refusal}
-use Rattle.planning.specs.declared.refusal.Refusal.TheVariants.{BadLevel, BadTiming, LevelTaken, TooManyTasks, NoBound}
+use Rattle.planning.specs.declared.refusal.Refusal.TheVariants.{NoBound}
 use Rattle.analysis.specs.declared.task.Task.{Task}
-use Rattle.analysis.specs.declared.task.BoundedTask.{BoundedTask}
 use Rattle.planning.specs.declared.verdict.Verdict.{Verdict}
 use Rattle.planning.specs.declared.verdict.Verdict.TheVariants.{Accepted, Refused}
-use Rattle.planning.specs.Admission.{task_level, task_fault, or_else, first_fault, by_level}
+use Rattle.planning.specs.Admission.{task_fault, or_else, first_fault, by_level}
 use Rattle.planning.specs.Plans.{at_deadline, all_at_deadline, verdict_after}
 use Rattle.plans.specs.Plans.{verdict_on}
-use Rattle.planning.specs.Published.{chosen, load, limit, Satisfies, EachSatisfies, Schedulable, Broken, Judged}
+use Rattle.planning.specs.Published.{chosen, load, limit, EachSatisfies, Judged}
 use Rattle.analysis.specs.Tasks.{bound_fits}
 use Rattle.analysis.proofs.Facts.{limits_from}
 use Rattle.rules.specs.Bounds.{rebound}

@@ -1,5 +1,5 @@
 -- What the planner answers to a sheet.
-use Rattle.std.specs.Prelude.{◌≡◌, ℕ, Bool, true, false, List, [], ◌++◌, Ok, Err, string_bytes, Result}
+use Rattle.std.specs.Prelude.{◌≡◌, ℕ, Bool, true, false, [], ◌++◌, Ok, Err, string_bytes, Result}
 use Rattle.planning.specs.Plans.{plan_rows, plan_verdict}
 use Rattle.planning.specs.Published.{Judged}
 use Rattle.planning.specs.declared.verdict.Verdict.{Verdict}

@@ -1,5 +1,5 @@
 -- The text of the answer.
-use Rattle.std.specs.Prelude.{ℕ, ◌-◌, Bool, true, false, cond, List, [], ◌∷◌, ◌++◌, length, replicate, codes, decimal}
+use Rattle.std.specs.Prelude.{ℕ, ◌-◌, List, [], ◌∷◌, ◌++◌, length, replicate, codes, decimal}
 use Rattle.std.specs.List.{flat_map}
 use Rattle.planning.specs.Refusals.{number}
 use Rattle.planning.specs.declared.refusal.Refusal.{Refusal}

@@ -1,6 +1,5 @@
 -- The worked examples hold: by computing.
 use Rattle.std.proofs.Common.{refl}
-use Rattle.queues.specs.Sets.{sort, insert}
 use Rattle.analysis.specs.Interference.{interference, lawful, sum_largest}
 use Rattle.analysis.specs.Work.{amount}
 use Rattle.rules.specs.Bounds.{rebound}

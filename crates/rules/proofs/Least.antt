@@ -1,10 +1,10 @@
 -- The search finds the least number that passes. Assumes nothing.
-use Rattle.std.proofs.Common.{◌≡◌, ℕ, zero, suc, ◌+◌, ◌-◌, ◌<◌, ◌≤◌, Bool, true, false, cond, List, Some, None, Option, sym, refl, ap, ◌∙◌, subst, ⊎_elim, arith}
+use Rattle.std.proofs.Common.{◌≡◌, ℕ, zero, suc, ◌+◌, ◌-◌, ◌<◌, ◌≤◌, Bool, true, false, cond, List, Some, None, Option, refl, subst, ⊎_elim, arith}
 use Rattle.std.proofs.lemmas.Bool.{cases_lt}
 use Rattle.analysis.specs.declared.task.Task.{Task}
 use Rattle.analysis.specs.declared.task.BoundedTask.{BoundedTask}
 use Rattle.rules.specs.Rules.{Rule}
-use Rattle.rules.specs.Search.{least, Least, IsLeast, IsBound, bound_of, passes_by}
+use Rattle.rules.specs.Search.{least, Least, IsBound, bound_of, passes_by}
 
 module _ (p : ℕ → Bool) where
   -- one number that does not pass, before the others

@@ -1,10 +1,9 @@
 -- The bounds of a set are what they should be, and the set keeps them. Assumes nothing.
-use Rattle.std.proofs.Common.{◌≡◌, ℕ, ◌+◌, ◌*◌, ◌/◌, ◌<◌, ◌≤◌, Bool, true, false, leb, List, [], ◌∷◌, ◌++◌, length, get_or, take, drop, set, is_ok, Some, None, Ok, Err, Option, sym, refl, ap, ◌∙◌, subst, div-lt_iff_lt-mul, arith}
+use Rattle.std.proofs.Common.{◌≡◌, ℕ, ◌+◌, ◌*◌, ◌/◌, ◌<◌, ◌≤◌, true, false, List, [], ◌∷◌, ◌++◌, length, get_or, take, drop, set, is_ok, Some, None, Ok, Err, Option, sym, refl, ap, ◌∙◌, subst, div-lt_iff_lt-mul, arith}
 use Rattle.std.proofs.lemmas.List.{append_assoc, append-nil, length-take-le, take-append-drop, take_all, drop_all, drop_more, take_more_set, drop-set-lt}
 use Rattle.std.proofs.lemmas.Bool.{leb-true, le-leb}
-use Rattle.analysis.specs.declared.task.Task.{Task}
 use Rattle.analysis.specs.declared.task.BoundedTask.{BoundedTask}
-use Rattle.analysis.specs.Interference.{interference, level_of, passes}
+use Rattle.analysis.specs.Interference.{interference, level_of}
 use Rattle.analysis.specs.Kept.{Holds, Kept}
 use Rattle.analysis.proofs.Facts.{limits_from}
 use Rattle.rules.specs.Bounds.{Rebound, Rebounded, rebound, rebound_set, rebound_answer, with_bound, set_fits}

@@ -1,16 +1,16 @@
 -- A task set that is worked through from the most urgent task on: each task can be tested against those before it.
 -- Assumes nothing.
-use Rattle.std.proofs.Common.{◌≡◌, ℕ, ◌+◌, ◌<◌, ◌≤◌, Bool, true, false, not, ◌&&◌, ◌||◌, eqb, ltb, leb, List, [], ◌∷◌, ◌++◌, length, take, drop, sym, refl, ap, ◌∙◌, subst, arith}
-use Rattle.std.proofs.ByRecursion.{All-append, All-push, All-weaker}
-use Rattle.std.proofs.lemmas.List.{append_assoc, append-nil, length-append, length_push, take-append-drop}
+use Rattle.std.proofs.Common.{◌≡◌, ℕ, ◌+◌, ◌<◌, ◌≤◌, true, false, not, ◌&&◌, eqb, ltb, leb, List, [], ◌∷◌, ◌++◌, length, sym, refl, subst, arith}
+use Rattle.std.proofs.ByRecursion.{All-push, All-weaker}
+use Rattle.std.proofs.lemmas.List.{append_assoc, append-nil, length_push}
 use Rattle.std.proofs.lemmas.Bool.{and_from, and_parts, or_parts, or_from, not-true, not_from_false, le-leb, lt-ltb, leb-true, ltb-true, eqb-false, ne_eqb}
 use Rattle.std.specs.List.{AllByRecursion as All}
 use Rattle.analysis.specs.declared.task.Task.{Task}
 use Rattle.analysis.specs.declared.task.BoundedTask.{BoundedTask}
-use Rattle.analysis.specs.Interference.{above, all_above, taken, distinct, level_of, lawful, numbers_fit}
+use Rattle.analysis.specs.Interference.{all_above, taken, distinct, level_of, lawful, numbers_fit}
 use Rattle.analysis.specs.Kept.{Holds, Kept}
 use Rattle.analysis.specs.Tasks.{within_limits, bound_fits}
-use Rattle.analysis.proofs.Facts.{Limits, limits_from, case_from}
+use Rattle.analysis.proofs.Facts.{case_from}
 use Rattle.rules.specs.Bounds.{below, rises, all_within, set_fits}
 
 abbrev pub Within : BoundedTask → Type 0

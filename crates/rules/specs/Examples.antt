@@ -3,7 +3,7 @@ use Rattle.std.specs.Prelude.{◌≡◌, ℕ, List, [], ◌∷◌, Some, None}
 use Rattle.analysis.specs.declared.task.Task.{Task}
 use Rattle.analysis.specs.declared.task.BoundedTask.{BoundedTask}
 use Rattle.analysis.specs.Work.{amount}
-use Rattle.rules.specs.Bounds.{Rebound, rebound}
+use Rattle.rules.specs.Bounds.{rebound}
 use Rattle.rules.specs.Rules.{response, deadline, all_carry}
 use Rattle.rules.specs.Search.{bound_of}
 

@@ -1,10 +1,9 @@
 -- The three rules keep the laws of a rule. Assumes nothing.
-use Rattle.std.proofs.Common.{sym, arith}
-use Rattle.std.specs.Prelude.{◌≤◌}
+use Rattle.std.proofs.Common.{arith}
 use Rattle.std.proofs.lemmas.Bool.{cond-true}
 use Rattle.analysis.specs.Interference.{interference, lawful}
 use Rattle.analysis.proofs.Facts.{case_from}
-use Rattle.rules.specs.Rules.{Rule, LawfulRule, Starts, Covers, response, deadline, all_carry}
+use Rattle.rules.specs.Rules.{LawfulRule, Starts, Covers, response, deadline}
 use Rattle.rules.specs.Standard.{rule_of}
 use Rattle.rules.specs.declared.standard_rule.StandardRule.{StandardRule}
 use Rattle.rules.specs.declared.standard_rule.StandardRule.TheVariants.{Response, Deadline, AllCarry}

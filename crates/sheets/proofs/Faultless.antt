@@ -1,5 +1,5 @@
 -- What follows where no line is at fault: what was read is what the lines say.
-use Rattle.std.proofs.Common.{◌≡◌, ℕ, suc, ◌+◌, ◌≤◌, true, List, [], ◌∷◌, ◌++◌, length, is_ok, Some, None, Ok, Err, Option, Result, sym, refl, ap, ◌∙◌, subst, append_assoc, append-nil, arith, length-append}
+use Rattle.std.proofs.Common.{◌≡◌, ℕ, ◌≤◌, true, List, [], ◌∷◌, ◌++◌, length, is_ok, Some, None, Ok, Err, Option, Result, refl, ap, ◌∙◌, subst, append_assoc, append-nil, arith}
 use Rattle.std.specs.List.{AllByRecursion as All}
 use Rattle.analysis.specs.declared.task.Task.{Task}
 use Rattle.sheets.specs.declared.entry.Entry.{Entry}
@@ -8,7 +8,7 @@ use Rattle.sheets.specs.declared.entry.Fault.{Fault}
 use Rattle.sheets.specs.declared.entry.Fault.TheVariants.{CoresTwice, RuleTwice}
 use Rattle.sheets.specs.declared.entry.Rule.{Rule}
 use Rattle.sheets.specs.Lines.{line_entry}
-use Rattle.sheets.specs.Reading.{Page, Says, cores_told, rule_told, all_cores, all_rules, all_tasks, again, fault_of, at_line, first_fault, whole, faulty, read_lines, read_text}
+use Rattle.sheets.specs.Reading.{Page, Says, cores_told, rule_told, all_cores, all_rules, all_tasks, again, fault_of, at_line, first_fault, whole, faulty, read_text}
 use Rattle.sheets.specs.Words.{lines}
 use Rattle.sheets.proofs.Told.{cores_in_range, cores_more, rules_more}
 

@@ -1,8 +1,8 @@
 -- Pieces that lack a byte and give a text back, with that byte between them, are what stands between those bytes.
-use Rattle.std.proofs.Common.{◌≡◌, ℕ, suc, ◌+◌, ◌<◌, ◌≤◌, true, false, cond, eqb, List, [], ◌∷◌, ◌++◌, map, length, get_or, take, is_ok, IfOk, Ok, Err, vec_items, vec_len, filter, Option, Result, Vec, sym, refl, ap, ◌∙◌, subst, append-nil, arith, Bor}
+use Rattle.std.proofs.Common.{◌≡◌, ℕ, suc, ◌+◌, ◌<◌, ◌≤◌, true, false, cond, eqb, List, [], ◌∷◌, ◌++◌, length, get_or, take, is_ok, IfOk, Ok, Err, vec_items, vec_len, filter, Option, Result, Vec, sym, refl, ap, ◌∙◌, append-nil, arith, Bor}
 use lib.ListN.{length-map}
 use Rattle.std.specs.Str.Iter.{LacksByte, IsSplitnRun, CutsAtEveryByte}
-use Rattle.std.specs.List.{join_with_byte, slice_get, AllByRecursion as All}
+use Rattle.std.specs.List.{join_with_byte, AllByRecursion as All}
 use Rattle.std.specs.Iterator.Runs.{Run, WholeRun, EachRunFrom}
 use Rattle.std.proofs.iter.runs.Lists.{Everywhere}
 use Rattle.std.proofs.iter.runs.Made.{seen, each_of}

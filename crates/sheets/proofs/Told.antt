@@ -1,6 +1,5 @@
 -- What one line more tells, and that no line tells more than 8 cores.
-use Rattle.std.proofs.Common.{◌≡◌, ℕ, ◌≤◌, Bool, true, false, cond, ◌&&◌, eqb, ltb, leb, List, [], ◌∷◌, ◌++◌, length, get_or, Some, None, Ok, Err, codes, Result, sym, refl, ap, ◌∙◌, subst, arith}
-use Rattle.std.specs.Option.{option_to_list}
+use Rattle.std.proofs.Common.{◌≡◌, ℕ, ◌≤◌, Bool, true, false, cond, ◌&&◌, eqb, ltb, leb, List, [], ◌∷◌, ◌++◌, length, get_or, Ok, Err, codes, Result, sym, refl, ap, ◌∙◌, subst}
 use Rattle.std.specs.Str.{bytes_eq}
 use Rattle.std.proofs.lemmas.List.{flat_map_more}
 use Rattle.std.proofs.lemmas.Bool.{and_parts, leb-true}
@@ -12,7 +11,7 @@ use Rattle.sheets.specs.declared.entry.Fault.TheVariants.{BadCores, CoresTwice, 
 use Rattle.sheets.specs.declared.reading.ReadError.{ReadError}
 use Rattle.sheets.specs.declared.reading.ReadError.TheVariants.{Memory, Line}
 use Rattle.sheets.specs.Drafts.{CoresFit, fault_after, Grown, Put, Holds, Entered}
-use Rattle.sheets.specs.Lines.{and_then, number_of, counted, cores_entry, rule_entry, task_entry, words_entry, line_entry}
+use Rattle.sheets.specs.Lines.{and_then, number_of, counted, words_entry, line_entry}
 use Rattle.sheets.specs.Reading.{cores_told, rule_told, task_told, all_cores, all_rules, all_tasks, again, fault_of}
 use Rattle.std.proofs.ByRecursion.{All-append}
 use Rattle.std.specs.List.{AllByRecursion as All}

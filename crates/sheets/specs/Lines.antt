@@ -1,12 +1,10 @@
 -- What a line of a sheet says.
-use Rattle.std.specs.Prelude.{ℕ, Bool, true, false, cond, ◌&&◌, List, [], ◌∷◌, length, Ok, Err, codes, Result, ◌==◌, nat_le, nat_lt, slice_index, slice_index_or}
+use Rattle.std.specs.Prelude.{ℕ, cond, ◌&&◌, List, [], ◌∷◌, length, Ok, Err, codes, Result, ◌==◌, nat_le, nat_lt, slice_index, slice_index_or}
 use Rattle.std.specs.Str.{all_ascii_digits, bytes_eq}
-use Rattle.analysis.specs.declared.task.Task.{Task}
 use Rattle.sheets.specs.declared.entry.Entry.{Entry}
 use Rattle.sheets.specs.declared.entry.Entry.TheVariants as entry
 use Rattle.sheets.specs.declared.entry.Fault.{Fault}
 use Rattle.sheets.specs.declared.entry.Fault.TheVariants.{UnknownWord, MissingWord, ExtraWord, NotNumber, TooLarge, BadCores, UnknownRule}
-use Rattle.sheets.specs.declared.entry.Rule.{Rule}
 use Rattle.sheets.specs.declared.entry.Rule.TheVariants.{Deadline}
 use Rattle.sheets.specs.Words.{words, filled, value}
 

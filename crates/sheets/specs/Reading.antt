@@ -1,5 +1,5 @@
 -- What a whole sheet says, or which line is at fault and why.
-use Rattle.std.specs.Prelude.{◌≡◌, ℕ, suc, ◌≤◌, Bool, true, false, cond, List, [], ◌∷◌, ◌++◌, length, is_ok, Some, None, Ok, Err, Option, Result}
+use Rattle.std.specs.Prelude.{◌≡◌, ℕ, suc, ◌≤◌, true, List, [], ◌∷◌, ◌++◌, length, is_ok, Some, None, Ok, Err, Option, Result}
 use Rattle.std.specs.List.{flat_map, AllByRecursion as All}
 use Rattle.analysis.specs.declared.task.Task.{Task}
 use Rattle.sheets.specs.declared.entry.Entry.{Entry}

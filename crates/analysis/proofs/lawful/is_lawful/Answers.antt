@@ -1,4 +1,4 @@
-use Rattle.std.proofs.Common.{◌≡◌, sym, ◌∙◌, arith}
+use Rattle.std.proofs.Common.{sym, arith}
 use Rattle.analysis.specs.Interference.{lawful}
 use Rattle.analysis.proofs.Facts.{levels_small}
 use Rattle.analysis.proofs.lawful.is_lawful.Goals as goal

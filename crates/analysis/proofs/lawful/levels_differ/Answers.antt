@@ -1,4 +1,4 @@
-use Rattle.std.proofs.Common.{◌≡◌, ◌≤◌, ◌&&◌, sym, refl, ap, arith, length-set}
+use Rattle.std.proofs.Common.{◌≤◌, ◌&&◌, sym, refl, ap, arith, length-set}
 use Rattle.std.proofs.lemmas.List.{drop_all}
 use Rattle.std.proofs.ByRecursion.{All-get_or}
 use Rattle.analysis.specs.Interference.{distinct, level_of}

@@ -1,4 +1,4 @@
-use Rattle.std.proofs.Common.{◌≡◌, ◌/◌, ◌%◌, arith, rules}
+use Rattle.std.proofs.Common.{arith, rules}
 use native.Mathlib.Nat.{div-zero, mod-zero}
 use Rattle.analysis.specs.Work.{amount}
 use Rattle.analysis.proofs.Amounts.{amount_laws}

@@ -1,5 +1,4 @@
-use Rattle.std.proofs.Common.{◌≡◌, ◌-◌, take, vec_items, sym, ap, ◌∙◌, subst, arith}
-use Rattle.planning.specs.Plans.{row_verdict}
+use Rattle.std.proofs.Common.{◌≡◌, ◌-◌, vec_items, sym, subst, arith}
 use Rattle.analysis.proofs.Blank.{no_bounded}
 use Rattle.planning.proofs.Judging.{Sofar, judged_none, judged_all, judged_refused, judged_more}
 use Rattle.planning.proofs.plan.judge.Goals as goal

@@ -1,11 +1,10 @@
-use Rattle.std.proofs.Common.{◌≡◌, ℕ, ◌+◌, ◌-◌, true, [], take, drop, is_ok, sym, refl, ap, ◌∙◌, subst, arith}
+use Rattle.std.proofs.Common.{◌≡◌, ℕ, ◌-◌, [], take, drop, is_ok, sym, ap, ◌∙◌, subst, arith}
 use Rattle.std.proofs.lemmas.List.{length-set}
 use Rattle.analysis.specs.Kept.{Kept}
 use Rattle.analysis.proofs.Blank.{no_bounded}
 use Rattle.rules.specs.Bounds.{rebound}
 use Rattle.rules.specs.Rules.{LawfulRule}
 use Rattle.rules.proofs.Rebounds.{rebounded, set_kept, rebound_turn, rebound_stop, rebound_end}
-use Rattle.rules.proofs.bounds.rebound.Given as given
 use Rattle.rules.proofs.bounds.rebound.Goals as goal
 
 pub returns-in_default : goal.returns-in_default

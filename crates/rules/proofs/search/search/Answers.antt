@@ -1,8 +1,7 @@
-use Rattle.std.proofs.Common.{◌≡◌, ℕ, Bool, Some, None, Option, sym, ap, ◌∙◌, arith}
+use Rattle.std.proofs.Common.{Some, None, sym, ap, ◌∙◌, arith}
 use Rattle.analysis.specs.Interference.{passes}
 use Rattle.rules.specs.Search.{passes_by}
 use Rattle.rules.proofs.Least.{bound_found, least_here, least_next, least_none}
-use Rattle.rules.proofs.search.search.Given as given
 use Rattle.rules.proofs.search.search.Goals as goal
 
 pub returns-then-passes : goal.returns-then-passes

@@ -1,4 +1,4 @@
-use Rattle.std.proofs.Common.{◌≡◌, false, eqb, length, sym, refl, ◌∙◌, arith}
+use Rattle.std.proofs.Common.{eqb, length, sym, refl, ◌∙◌, arith}
 use Rattle.queues.specs.Items.{level_before}
 use Rattle.queues.specs.Sets.{has}
 use Rattle.std.proofs.lemmas.Bool.{cond-false, ne_eqb}
