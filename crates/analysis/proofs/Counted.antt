@@ -5,7 +5,7 @@ use Rattle.std.proofs.lemmas.List.{map_more, length-take-le, length-map, length-
 use Rattle.std.proofs.lemmas.List.Sums.{sum_by_more, sum_by-take-le, sum_by-cons, sum-map}
 use Rattle.std.proofs.lemmas.Bool.{and_parts, or_parts, or_from, not-true, cond-false, ne_eqb}
 use Rattle.std.proofs.lemmas.Bool.Decides.{nat_tests}
-use Rattle.std.specs.List.{AllByRecursion as All}
+use Rattle.std.specs.List.{AllByRecursion}
 use Rattle.queues.specs.Orders.{extra_lawful}
 use Rattle.queues.proofs.Laws.{sort_push, has_sort, length_sort}
 use Rattle.queues.specs.Items.{extra_at, extra_before}
@@ -36,7 +36,7 @@ module _ {X : Type 0} (level : X → ℕ) where
       or_from _ _ r (distinct_at xs i d p.1 (omega arith))
 
 module _ (k : Task) (x : ℕ) where
-  plain_small : (others : List BoundedTask) → cap k x ≤ 60000 → All (λ i. plain k x i ≤ 60000) others
+  plain_small : (others : List BoundedTask) → cap k x ≤ 60000 → AllByRecursion (λ i. plain k x i ≤ 60000) others
   plain_small [] h = tt
   plain_small (i ∷ is) h = (omega arith, plain_small is h)
 
@@ -45,7 +45,7 @@ module _ (k : Task) (x : ℕ) where
   plain_fits others c = let f = c.few in let h = sum_by_le (plain k x) 60000 others (plain_small others c.small) in omega arith
 
   -- an extra at another level is not among the extras
-  lacks : (a l : ℕ) (is : List BoundedTask) → l ≤ 63 → All (λ i. level_of i ≤ 63) is → taken level_of l is ≡ false → has extra_before (extra_at a l) (extras k x is) ≡ false
+  lacks : (a l : ℕ) (is : List BoundedTask) → l ≤ 63 → AllByRecursion (λ i. level_of i ≤ 63) is → taken level_of l is ≡ false → has extra_before (extra_at a l) (extras k x is) ≡ false
   lacks a l [] s u e = refl
   lacks a l (i ∷ is) s u e =
       let p = or_parts (eqb (level_of i) l) (taken level_of l is) e in
@@ -55,7 +55,7 @@ module _ (k : Task) (x : ℕ) where
       let z : same extra_before (extra_at a l) (extra_at (extra k x i) (level_of i)) ≡ false = grind (arith, nat_tests) in
       grind arith
 
-  all_front : (n : ℕ) (is : List BoundedTask) → All (λ i. level_of i ≤ 63) is → All (λ i. level_of i ≤ 63) (take n is)
+  all_front : (n : ℕ) (is : List BoundedTask) → AllByRecursion (λ i. level_of i ≤ 63) is → AllByRecursion (λ i. level_of i ≤ 63) (take n is)
   all_front n is u = All-take (λ i. level_of i ≤ 63) n is u
 
   -- the plain amounts so far and one more
@@ -114,7 +114,7 @@ amount_falls : Falls extra_before (λ e. e.amount)
 amount_falls = record { before = λ x y p. grind (arith, nat_tests); after = λ x y p. grind (arith, nat_tests) }
 
 module _ (k : Task) (x : ℕ) where
-  extras_small : (others : List BoundedTask) → cap k x ≤ 60000 → All (λ e. e.amount ≤ 60000) (extras k x others)
+  extras_small : (others : List BoundedTask) → cap k x ≤ 60000 → AllByRecursion (λ e. e.amount ≤ 60000) (extras k x others)
   extras_small [] h = tt
   extras_small (i ∷ is) h = (omega arith, extras_small is h)
 

@@ -1,7 +1,7 @@
 -- What the tests of limits tell. Assumes nothing.
 use Rattle.std.proofs.Common.{◌≡◌, ℕ, ◌<◌, ◌≤◌, true, ◌&&◌, leb, List, [], ◌∷◌, length}
 use Rattle.std.proofs.lemmas.Bool.{and_parts, leb-true, ltb-true}
-use Rattle.std.specs.List.{AllByRecursion as All}
+use Rattle.std.specs.List.{AllByRecursion}
 use Rattle.std.proofs.ByRecursion.{All-weaker}
 use Rattle.analysis.specs.declared.task.Task.{Task}
 use Rattle.analysis.specs.declared.task.BoundedTask.{BoundedTask}
@@ -30,7 +30,7 @@ pub record Case (k : Task) (others : List BoundedTask) (m x : ℕ) : Type 0 wher
   pub limits : Limits k
   pub low : k.run ≤ x
   pub high : x ≤ k.deadline
-  pub each : All (Above k) others
+  pub each : AllByRecursion (Above k) others
   pub apart : distinct level_of others ≡ true
 
 pub limits_from : (k : Task) → within_limits k ≡ true → Limits k
@@ -59,11 +59,11 @@ above_from k i e =
       urgent = ltb-true _ _ p.1;
     }
 
-pub each_from : (k : Task) (is : List BoundedTask) → all_above k is ≡ true → All (Above k) is
+pub each_from : (k : Task) (is : List BoundedTask) → all_above k is ≡ true → AllByRecursion (Above k) is
 each_from k [] e = tt
 each_from k (i ∷ is) e = let p = and_parts (above k i) (all_above k is) e in (above_from k i p.0, each_from k is p.1)
 
-pub levels_small : (k : Task) (is : List BoundedTask) → all_above k is ≡ true → All (λ i. level_of i ≤ 63) is
+pub levels_small : (k : Task) (is : List BoundedTask) → all_above k is ≡ true → AllByRecursion (λ i. level_of i ≤ 63) is
 levels_small k is e = All-weaker (Above k) (λ i. level_of i ≤ 63) (λ i a. a.limits.level) is (each_from k is e)
 
 pub case_from : (k : Task) (others : List BoundedTask) (m x : ℕ) → lawful k others m x ≡ true → Case k others m x

@@ -4,7 +4,7 @@ use Rattle.std.proofs.lemmas.List.{get_or-map, length-map, map-set}
 use Rattle.std.proofs.lemmas.List.Sorted.{IsPermutation-keeps, sum_by-IsPermutation}
 use Rattle.std.proofs.lemmas.List.Sums.{sum-map, sum_by-cons}
 use Rattle.std.proofs.lemmas.Bool.Decides.{nat_tests}
-use Rattle.std.specs.List.{swap, AllByRecursion as All}
+use Rattle.std.specs.List.{swap, AllByRecursion}
 use Rattle.std.specs.List.Sorted.{IsPermutation}
 use Rattle.queues.specs.Sets.{Lawful, sort}
 use Rattle.heaps.proofs.Sorting.{sort_swap}
@@ -45,7 +45,7 @@ module _ (k : Task) (m x : ℕ) where
   by_best others = ap (λ n. sum_by (plain k x) others + n) (largest_best (m - 1) (map (extra k x) others))
 
   -- plain amounts and extras make up the carried amounts
-  all_extras : (others : List BoundedTask) → All (λ i. plain k x i ≤ carried k x i) others → sum_by (plain k x) others + sum_by (extra k x) others ≡ sum_by (carried k x) others
+  all_extras : (others : List BoundedTask) → AllByRecursion (λ i. plain k x i ≤ carried k x i) others → sum_by (plain k x) others + sum_by (extra k x) others ≡ sum_by (carried k x) others
   all_extras [] a = refl
   all_extras (i ∷ is) a =
       let h = all_extras is a.1 in

@@ -3,7 +3,7 @@ use Rattle.std.proofs.Common.{◌≡◌, ℕ, zero, suc, ◌+◌, ◌<◌, ◌�
 use Rattle.std.proofs.lemmas.List.{map-id}
 use Rattle.std.proofs.lemmas.List.Sums.{sum_by-cons}
 use Rattle.std.proofs.lemmas.Bool.{ltb-true, ltb-false, cases_lt, eq-eqb, or_parts, not-true, and_parts}
-use Rattle.std.specs.List.{AllByRecursion as All}
+use Rattle.std.specs.List.{AllByRecursion}
 use Rattle.queues.specs.Sets.{insert, sort}
 use Rattle.analysis.specs.Interference.{larger, sum_largest, taken, distinct}
 
@@ -37,7 +37,7 @@ best_tail (suc n) x xs ys h = omega (arith, h (suc n), h n)
 
 -- none of the numbers is above x
 abbrev Under : ℕ → List ℕ → Type 0
-Under x ys = All (λ y. y ≤ x) ys
+Under x ys = AllByRecursion (λ y. y ≤ x) ys
 
 -- one more choice adds at most x where no number is above x
 best_step : (n x : ℕ) (ys : List ℕ) → Under x ys → best (suc n) ys ≤ x + best n ys

@@ -1,7 +1,7 @@
 -- What the sums mean: laws of the amount and of the interference.
 use Rattle.std.specs.Prelude.{◌≡◌, ℕ, ◌+◌, ◌-◌, ◌≤◌, Bool, true, List, length, sum_by, filter}
 use Rattle.std.specs.List.Sorted.{IsPermutation}
-use Rattle.std.specs.List.{AllByRecursion as All}
+use Rattle.std.specs.List.{AllByRecursion}
 use Rattle.analysis.specs.declared.task.Task.{Task}
 use Rattle.analysis.specs.declared.task.BoundedTask.{BoundedTask}
 use Rattle.analysis.specs.Interference.{extra, interference, distinct, level_of}
@@ -37,6 +37,6 @@ pub record InterferenceLaws (k : Task) (others : List BoundedTask) (m x : ℕ) :
   -- and one reaches it
   pub reached : distinct level_of others ≡ true → Worst k others m x
   -- all tasks carried count for no less
-  pub covered : All (λ i. plain k x i ≤ carried k x i) others → interference k others m x ≤ sum_by (carried k x) others
+  pub covered : AllByRecursion (λ i. plain k x i ≤ carried k x i) others → interference k others m x ≤ sum_by (carried k x) others
   -- the order of the list does not matter
   pub reordered : (same : List BoundedTask) → IsPermutation others same → interference k same m x ≡ interference k others m x

@@ -1,6 +1,6 @@
 // The cases in which a rule works out a total.
 ghost use Rattle.std.specs.Prelude.{◌≡◌, ◌≤◌, true};
-ghost use Rattle.std.specs.List.{AllByRecursion as All};
+ghost use Rattle.std.specs.List.{AllByRecursion};
 ghost use Rattle.analysis.specs.Interference.{above, all_above, distinct, level_of, lawful, numbers_fit};
 
 use crate::task::{BoundedTask, Task};
@@ -28,7 +28,7 @@ pub fn all_above(task: &Task, others: &[BoundedTask]) -> bool
 
 // Whether no two of the tasks share a level: a level that is seen is marked.
 fn levels_differ(tasks: &[BoundedTask]) -> bool
-    requires { All (λ i. level_of i ≤ 63) tasks.now }
+    requires { AllByRecursion (λ i. level_of i ≤ 63) tasks.now }
     ensures { result ≡ distinct level_of tasks.now }
 {
     let mut seen = [false; 64];

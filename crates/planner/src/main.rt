@@ -1,10 +1,10 @@
 // The office planner: checks the task set of a sheet on standard input by the published deadline test.
 #![tactic(auto)]
 
-use anyhow::anyhow;
 use reports::answer::answer;
 use reports::reply::Answer;
 use std::io::Read;
+use std::process::ExitCode;
 
 // Standard input, whole.
 fn input(rt: &HostRuntime) -> anyhow::Result<String> {
@@ -23,13 +23,13 @@ fn run(rt: &HostRuntime) -> anyhow::Result<bool> {
     Ok(accepted)
 }
 
-fn main(rt: HostRuntime) -> anyhow::Result<()> {
+fn main(rt: HostRuntime) -> ExitCode {
     match run(&rt) {
-        Ok(true) => Ok(()),
-        Ok(false) => Err(anyhow!("refused")),
+        Ok(true) => ExitCode::SUCCESS,
+        Ok(false) => ExitCode::FAILURE,
         Err(error) => {
-            eprintln!(rt; "planner: {error}")?;
-            Err(error)
+            let _ = eprintln!(rt; "planner: {error}");
+            ExitCode::FAILURE
         }
     }
 }

@@ -6,7 +6,7 @@ use Rattle.std.proofs.ByRecursion.{All-push, All-weaker}
 use Rattle.std.proofs.lemmas.List.{length-map, length_push}
 use Rattle.std.proofs.lemmas.Bool.{and_from, and_parts, or_parts, or_from, not-true, not_from_false, le-leb, lt-ltb, ltb-true, ltb-false, eqb-false, ne_eqb}
 use Rattle.std.proofs.lemmas.Bool.Decides.{nat_tests}
-use Rattle.std.specs.List.{AllByRecursion as All}
+use Rattle.std.specs.List.{AllByRecursion}
 use Rattle.analysis.specs.declared.task.Task.{Task}
 use Rattle.planning.specs.Admission.{task_level, task_fault, or_else, first_fault, more_urgent, by_level}
 use Rattle.analysis.specs.Interference.{all_above, taken, distinct, level_of, lawful, numbers_fit}
@@ -20,7 +20,7 @@ Fits k = within_limits k ≡ true
 
 -- each comes after level l
 abbrev pub After : ℕ → List Task → Type 0
-After l ks = All (λ k. l < k.level) ks
+After l ks = AllByRecursion (λ k. l < k.level) ks
 
 abbrev pub Rising : List Task → Type 0
 Rising [] = Unit {0}
@@ -28,18 +28,18 @@ Rising (k ∷ ks) = After k.level ks × Rising ks
 
 -- `seen` are judged, ks come next
 pub record Walk (seen ks : List Task) : Type 0 where
-  pub seen_fit : All Fits seen
-  pub fit : All Fits ks
+  pub seen_fit : AllByRecursion Fits seen
+  pub fit : AllByRecursion Fits ks
   pub apart : distinct task_level seen ≡ true
-  pub order : All (λ i. After i.level ks) seen
+  pub order : AllByRecursion (λ i. After i.level ks) seen
   pub rising : Rising ks
   pub few : length seen + length ks ≤ 32
 
-taken_after : (l : ℕ) (ks : List Task) → All (λ i. i.level < l) ks → taken task_level l ks ≡ false
+taken_after : (l : ℕ) (ks : List Task) → AllByRecursion (λ i. i.level < l) ks → taken task_level l ks ≡ false
 taken_after l [] a = refl
 taken_after l (k ∷ ks) a = let p = a.0 in or_from _ _ (ne_eqb k.level l (λ e. omega arith)) (taken_after l ks a.1)
 
-heads : (k : Task) (ks seen : List Task) → All (λ i. After i.level (k ∷ ks)) seen → All (λ i. i.level < k.level) seen
+heads : (k : Task) (ks seen : List Task) → AllByRecursion (λ i. After i.level (k ∷ ks)) seen → AllByRecursion (λ i. i.level < k.level) seen
 heads k ks seen a = All-weaker (λ i. After i.level (k ∷ ks)) (λ i. i.level < k.level) (λ i h. h.0) seen a
 
 -- a task more at the end, at a level that is not taken
@@ -66,7 +66,7 @@ walk_more seen k ks w =
     }
 
 -- the tests of one case
-all_above_from : (k : Task) (seen : List Task) → All Fits seen → All (λ i. i.level < k.level) seen → all_above k (all_at_deadline seen) ≡ true
+all_above_from : (k : Task) (seen : List Task) → AllByRecursion Fits seen → AllByRecursion (λ i. i.level < k.level) seen → all_above k (all_at_deadline seen) ≡ true
 all_above_from k [] f a = refl
 all_above_from k (i ∷ is) f a =
     let l = limits_from i f.0 in
@@ -91,9 +91,9 @@ walk_lawful m seen k ks low high w =
 
 -- what it says that no task is at fault
 pub record Sound (before ks : List Task) : Type 0 where
-  pub fit : All Fits ks
+  pub fit : AllByRecursion Fits ks
   pub apart : distinct task_level ks ≡ true
-  pub fresh : All (λ k. taken task_level k.level before ≡ false) ks
+  pub fresh : AllByRecursion (λ k. taken task_level k.level before ≡ false) ks
   pub few : length before ≤ 32 → length before + length ks ≤ 32
 
 or_else_none : {A : Type 0} (o p : Option A) → or_else o p ≡ None → (o ≡ None) × (p ≡ None)
@@ -107,7 +107,7 @@ taken_push l (x ∷ xs) k t =
     let q = taken_push l xs k p.1 in
     (or_from _ _ p.0 q.0, q.1)
 
-not_taken : (k : Task) (ks : List Task) → All (λ j. eqb k.level j.level ≡ false) ks → taken task_level k.level ks ≡ false
+not_taken : (k : Task) (ks : List Task) → AllByRecursion (λ j. eqb k.level j.level ≡ false) ks → taken task_level k.level ks ≡ false
 not_taken k [] a = refl
 not_taken k (j ∷ ks) a = let p = a.0 in or_from (eqb j.level k.level) _ (grind (arith, nat_tests)) (not_taken k ks a.1)
 
@@ -127,15 +127,15 @@ sound_from before (k ∷ ks) e =
 after_less : (l n : ℕ) (ks : List Task) → l < n → After n ks → After l ks
 after_less l n ks h a = All-weaker (λ k. n < k.level) (λ k. l < k.level) (λ k p. omega arith) ks a
 
-all_insert : (P : Task → Type 0) (k : Task) (s : List Task) → P k → All P s → All P (insert more_urgent k s)
+all_insert : (P : Task → Type 0) (k : Task) (s : List Task) → P k → AllByRecursion P s → AllByRecursion P (insert more_urgent k s)
 all_insert P k [] p a = (p, tt)
 all_insert P k (y ∷ s) p a = split (more_urgent y k) (all_insert P k s p a.1)
   where
-    split : (t : Bool) → All P (insert more_urgent k s) → All P (cond t (y ∷ insert more_urgent k s) (k ∷ y ∷ s))
+    split : (t : Bool) → AllByRecursion P (insert more_urgent k s) → AllByRecursion P (cond t (y ∷ insert more_urgent k s) (k ∷ y ∷ s))
     split true h = (a.0, h)
     split false h = (p, a)
 
-all_sort : (P : Task → Type 0) (ks : List Task) → All P ks → All P (by_level ks)
+all_sort : (P : Task → Type 0) (ks : List Task) → AllByRecursion P ks → AllByRecursion P (by_level ks)
 all_sort P [] a = tt
 all_sort P (k ∷ ks) a = all_insert P k (by_level ks) a.0 (all_sort P ks a.1)
 

@@ -6,7 +6,7 @@ use Rattle.std.proofs.ByRecursion.{All-weaker}
 use Rattle.std.proofs.lemmas.List.{length-map, length_push}
 use Rattle.std.proofs.lemmas.Bool.{and_from, and_parts, or_parts, or_from, not-true, not_from_false, ltb-true, ltb-false, eqb-false}
 use Rattle.std.proofs.lemmas.Bool.Decides.{nat_tests}
-use Rattle.std.specs.List.{AllByRecursion as All}
+use Rattle.std.specs.List.{AllByRecursion}
 use Rattle.analysis.specs.declared.task.Task.{Task}
 use Rattle.analysis.specs.declared.task.BoundedTask.{BoundedTask}
 use Rattle.planning.specs.Admission.{task_level, task_fault, or_else, first_fault, more_urgent, by_level}
@@ -21,7 +21,7 @@ Fits k = within_limits k ≡ true
 
 -- each comes after level l
 abbrev After : ℕ → List Task → Type 0
-After l ks = All (λ k. l < k.level) ks
+After l ks = AllByRecursion (λ k. l < k.level) ks
 
 abbrev Rising : List Task → Type 0
 Rising [] = Unit {0}
@@ -37,9 +37,9 @@ distinct_deadline (k ∷ ks) = (λ j. not (taken_deadline k.level ks j) && disti
 
 -- what it says that no task is at fault
 pub record Sound (before ks : List Task) : Type 0 where
-  pub fit : All Fits ks
+  pub fit : AllByRecursion Fits ks
   pub apart : distinct task_level ks ≡ true
-  pub fresh : All (λ k. taken task_level k.level before ≡ false) ks
+  pub fresh : AllByRecursion (λ k. taken task_level k.level before ≡ false) ks
   pub few : length before ≤ 32 → length before + length ks ≤ 32
 
 or_else_none : {A : Type 0} (o p : Option A) → or_else o p ≡ None → (o ≡ None) × (p ≡ None)
@@ -53,7 +53,7 @@ taken_push l (x ∷ xs) k t =
     let q = taken_push l xs k p.1 in
     (or_from _ _ p.0 q.0, q.1)
 
-not_taken : (k : Task) (ks : List Task) → All (λ j. eqb k.level j.level ≡ false) ks → taken task_level k.level ks ≡ false
+not_taken : (k : Task) (ks : List Task) → AllByRecursion (λ j. eqb k.level j.level ≡ false) ks → taken task_level k.level ks ≡ false
 not_taken k [] a = refl
 not_taken k (j ∷ ks) a = let p = a.0 in or_from (eqb j.level k.level) _ (grind (arith, nat_tests)) (not_taken k ks a.1)
 
@@ -73,15 +73,15 @@ sound_from before (k ∷ ks) e =
 after_less : (l n : ℕ) (ks : List Task) → l < n → After n ks → After l ks
 after_less l n ks h a = All-weaker (λ k. n < k.level) (λ k. l < k.level) (λ k p. omega arith) ks a
 
-all_insert : (P : Task → Type 0) (k : Task) (s : List Task) → P k → All P s → All P (insert more_urgent k s)
+all_insert : (P : Task → Type 0) (k : Task) (s : List Task) → P k → AllByRecursion P s → AllByRecursion P (insert more_urgent k s)
 all_insert P k [] p a = (p, tt)
 all_insert P k (y ∷ s) p a = split (more_urgent y k) (all_insert P k s p a.1)
   where
-    split : (t : Bool) → All P (insert more_urgent k s) → All P (cond t (y ∷ insert more_urgent k s) (k ∷ y ∷ s))
+    split : (t : Bool) → AllByRecursion P (insert more_urgent k s) → AllByRecursion P (cond t (y ∷ insert more_urgent k s) (k ∷ y ∷ s))
     split true h = (a.0, h)
     split false h = (p, a)
 
-all_sort : (P : Task → Type 0) (ks : List Task) → All P ks → All P (by_level ks)
+all_sort : (P : Task → Type 0) (ks : List Task) → AllByRecursion P ks → AllByRecursion P (by_level ks)
 all_sort P [] a = tt
 all_sort P (k ∷ ks) a = all_insert P k (by_level ks) a.0 (all_sort P ks a.1)
 
@@ -103,7 +103,7 @@ rising_sort (k ∷ ks) d =
     let p = and_parts (not (taken task_level k.level ks)) (distinct task_level ks) d in
     rising_insert k (by_level ks) (rising_sort ks p.1) (taken_sort k.level ks ∙ not-true _ p.0)
 
-all_deadline : (P : BoundedTask → Type 0) (ks : List Task) → All (λ k. P (at_deadline k)) ks → All P (all_at_deadline ks)
+all_deadline : (P : BoundedTask → Type 0) (ks : List Task) → AllByRecursion (λ k. P (at_deadline k)) ks → AllByRecursion P (all_at_deadline ks)
 all_deadline P [] a = tt
 all_deadline P (k ∷ ks) a = (a.0, all_deadline P ks a.1)
 

@@ -4,7 +4,7 @@ use Rattle.std.proofs.Common.{◌≡◌, ℕ, ◌+◌, ◌<◌, ◌≤◌, true,
 use Rattle.std.proofs.ByRecursion.{All-push, All-weaker}
 use Rattle.std.proofs.lemmas.List.{append_assoc, append-nil, length_push}
 use Rattle.std.proofs.lemmas.Bool.{and_from, and_parts, or_parts, or_from, not-true, not_from_false, le-leb, lt-ltb, leb-true, ltb-true, eqb-false, ne_eqb}
-use Rattle.std.specs.List.{AllByRecursion as All}
+use Rattle.std.specs.List.{AllByRecursion}
 use Rattle.analysis.specs.declared.task.Task.{Task}
 use Rattle.analysis.specs.declared.task.BoundedTask.{BoundedTask}
 use Rattle.analysis.specs.Interference.{all_above, taken, distinct, level_of, lawful, numbers_fit}
@@ -18,7 +18,7 @@ Within i = within_limits i.task ≡ true
 
 -- each comes after level l
 abbrev pub After : ℕ → List BoundedTask → Type 0
-After l is = All (λ i. l < level_of i) is
+After l is = AllByRecursion (λ i. l < level_of i) is
 
 abbrev pub Rising : List BoundedTask → Type 0
 Rising [] = Unit {0}
@@ -28,18 +28,18 @@ Rising (i ∷ is) = After (level_of i) is × Rising is
 pub record Walk (m : ℕ) (seen is : List BoundedTask) : Type 0 where
   pub some_core : 1 ≤ m
   pub few_cores : m ≤ 8
-  pub seen_fit : All (λ j. bound_fits j ≡ true) seen
-  pub fit : All Within is
+  pub seen_fit : AllByRecursion (λ j. bound_fits j ≡ true) seen
+  pub fit : AllByRecursion Within is
   pub apart : distinct level_of seen ≡ true
-  pub order : All (λ j. After (level_of j) is) seen
+  pub order : AllByRecursion (λ j. After (level_of j) is) seen
   pub rising : Rising is
   pub few : length seen + length is ≤ 32
 
-taken_before : (l : ℕ) (is : List BoundedTask) → All (λ i. level_of i < l) is → taken level_of l is ≡ false
+taken_before : (l : ℕ) (is : List BoundedTask) → AllByRecursion (λ i. level_of i < l) is → taken level_of l is ≡ false
 taken_before l [] a = refl
 taken_before l (i ∷ is) a = let p = a.0 in or_from _ _ (ne_eqb (level_of i) l (λ e. omega arith)) (taken_before l is a.1)
 
-heads : (i : BoundedTask) (is seen : List BoundedTask) → All (λ j. After (level_of j) (i ∷ is)) seen → All (λ j. level_of j < level_of i) seen
+heads : (i : BoundedTask) (is seen : List BoundedTask) → AllByRecursion (λ j. After (level_of j) (i ∷ is)) seen → AllByRecursion (λ j. level_of j < level_of i) seen
 heads i is seen a = All-weaker (λ j. After (level_of j) (i ∷ is)) (λ j. level_of j < level_of i) (λ j h. h.0) seen a
 
 -- a task more at the end, at a level that is not taken
@@ -67,13 +67,13 @@ walk_more m seen i j is e b w =
       few_cores = w.few_cores;
       seen_fit = All-push (λ j. bound_fits j ≡ true) seen j w.seen_fit b;
       fit = w.fit.1;
-      apart = distinct_push seen j w.apart (taken_before (level_of j) seen (subst (λ l. All (λ j. level_of j < l) seen) (sym e) (heads i is seen w.order)));
+      apart = distinct_push seen j w.apart (taken_before (level_of j) seen (subst (λ l. AllByRecursion (λ j. level_of j < l) seen) (sym e) (heads i is seen w.order)));
       order = All-push (λ j. After (level_of j) is) seen j (All-weaker (λ j. After (level_of j) (i ∷ is)) (λ j. After (level_of j) is) (λ j h. h.1) seen w.order) (subst (λ l. After l is) (sym e) w.rising.0);
       rising = w.rising.1;
       few = let f = w.few in omega (arith, length_push seen j);
     }
 
-above_from : (k : Task) (seen : List BoundedTask) → All (λ j. bound_fits j ≡ true) seen → All (λ j. level_of j < k.level) seen → all_above k seen ≡ true
+above_from : (k : Task) (seen : List BoundedTask) → AllByRecursion (λ j. bound_fits j ≡ true) seen → AllByRecursion (λ j. level_of j < k.level) seen → all_above k seen ≡ true
 above_from k [] f a = refl
 above_from k (j ∷ js) f a = and_from _ _ (and_from _ _ f.0 (lt-ltb _ _ a.0)) (above_from k js f.1 a.1)
 
@@ -98,7 +98,7 @@ below_from l (i ∷ is) e =
     let h = below_from (level_of i) is p.1 in
     ((a, All-weaker (λ j. level_of i < level_of j) (λ j. l < level_of j) (λ j b. omega arith) is h.0), h)
 
-within_from : (is : List BoundedTask) → all_within is ≡ true → All Within is
+within_from : (is : List BoundedTask) → all_within is ≡ true → AllByRecursion Within is
 within_from [] e = tt
 within_from (i ∷ is) e = let p = and_parts (within_limits i.task) (all_within is) e in (p.0, within_from is p.1)
 

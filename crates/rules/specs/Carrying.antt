@@ -4,7 +4,7 @@ use Rattle.std.proofs.Common.{arith}
 use Rattle.std.proofs.ByRecursion.{All-weaker, sum_by_le}
 use Rattle.std.proofs.lemmas.List.Sums.{sum_by_more, sum_by-take-le}
 use Rattle.std.proofs.lemmas.Bool.{cond-true}
-use Rattle.std.specs.List.{AllByRecursion as All}
+use Rattle.std.specs.List.{AllByRecursion}
 use Rattle.analysis.specs.declared.task.Task.{Task}
 use Rattle.analysis.specs.declared.task.BoundedTask.{BoundedTask}
 use Rattle.analysis.specs.Counting.{Countable}
@@ -15,7 +15,7 @@ use Rattle.analysis.proofs.Facts.{Above, case_from}
 use Rattle.analysis.proofs.Interfering.{interference_laws}
 use Rattle.rules.specs.Rules.{Covers, all_carry, all_carried}
 
-carried_small : (k : Task) (x : ℕ) (above : List BoundedTask) → cap k x ≤ 60000 → All (λ i. carried k x i ≤ 60000) above
+carried_small : (k : Task) (x : ℕ) (above : List BoundedTask) → cap k x ≤ 60000 → AllByRecursion (λ i. carried k x i ≤ 60000) above
 carried_small k x [] h = tt
 carried_small k x (i ∷ is) h = (omega arith, carried_small k x is h)
 

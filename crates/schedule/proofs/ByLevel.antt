@@ -1,7 +1,7 @@
 -- The tasks of a set by their levels. Assumes nothing.
 use Rattle.std.proofs.Common.{◌≡◌, ℕ, ◌<◌, Bool, true, false, cond, ◌||◌, eqb, List, [], ◌∷◌, ◌++◌, refl, ap, ◌∙◌, subst, ⊎_elim, arith}
 use Rattle.std.proofs.lemmas.Bool.{eq-eqb, ne_eqb, eqb-true, or_cases, or_from, or_left, or_right, or_parts}
-use Rattle.std.specs.List.{AllByRecursion as All}
+use Rattle.std.specs.List.{AllByRecursion}
 use Rattle.analysis.specs.declared.task.BoundedTask.{BoundedTask}
 use Rattle.analysis.specs.Interference.{level_of, taken}
 use Rattle.schedule.specs.Levels.{no_task, at_level}
@@ -24,7 +24,7 @@ pub taken_last : (xs : List BoundedTask) (y : BoundedTask) → taken level_of (l
 taken_last [] y = or_left _ _ (eq-eqb (level_of y) (level_of y) refl)
 taken_last (x ∷ xs) y = or_right _ _ (taken_last xs y)
 
-pub taken_below : (l n : ℕ) (xs : List BoundedTask) → All (λ i. level_of i < n) xs → taken level_of l xs ≡ true → l < n
+pub taken_below : (l n : ℕ) (xs : List BoundedTask) → AllByRecursion (λ i. level_of i < n) xs → taken level_of l xs ≡ true → l < n
 taken_below l n [] a e = let z : ◌≡◌ {A = ℕ} 0 1 = cc in absurd (omega arith)
 taken_below l n (x ∷ xs) a e =
     ⊎_elim
@@ -32,11 +32,11 @@ taken_below l n (x ∷ xs) a e =
     (λ (h : taken level_of l xs ≡ true). taken_below l n xs a.1 h)
     (or_cases (eqb (level_of x) l) (taken level_of l xs) e)
 
-pub taken_above : (l : ℕ) (xs : List BoundedTask) → All (λ i. l < level_of i) xs → taken level_of l xs ≡ false
+pub taken_above : (l : ℕ) (xs : List BoundedTask) → AllByRecursion (λ i. l < level_of i) xs → taken level_of l xs ≡ false
 taken_above l [] a = refl
 taken_above l (x ∷ xs) a = let h = a.0 in or_from _ _ (ne_eqb (level_of x) l (λ e. omega arith)) (taken_above l xs a.1)
 
-pub not_below : (l : ℕ) (xs : List BoundedTask) → All (λ i. level_of i < l) xs → taken level_of l xs ≡ false
+pub not_below : (l : ℕ) (xs : List BoundedTask) → AllByRecursion (λ i. level_of i < l) xs → taken level_of l xs ≡ false
 not_below l [] a = refl
 not_below l (x ∷ xs) a = let h = a.0 in or_from _ _ (ne_eqb (level_of x) l (λ e. omega arith)) (not_below l xs a.1)
 
@@ -53,7 +53,7 @@ at_level_here (x ∷ xs) ys i e =
     ap (λ t. cond t x (at_level (level_of i) (xs ++ i ∷ ys))) p.0 ∙ at_level_here xs ys i p.1
 
 -- what holds of each task of a set holds of each level, if it holds where no task stands
-pub by_level : (P : ℕ → BoundedTask → Type 0) (set : List BoundedTask) (l : ℕ) → All (λ i. P (level_of i) i) set → P l no_task → P l (at_level l set)
+pub by_level : (P : ℕ → BoundedTask → Type 0) (set : List BoundedTask) (l : ℕ) → AllByRecursion (λ i. P (level_of i) i) set → P l no_task → P l (at_level l set)
 by_level P [] l a n = n
 by_level P (i ∷ is) l a n = split (eqb (level_of i) l) refl (by_level P is l a.1 n)
   where

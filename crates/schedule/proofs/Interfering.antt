@@ -2,7 +2,7 @@
 use Rattle.std.proofs.Common.{◌≡◌, ℕ, ◌+◌, ◌-◌, ◌*◌, ◌/◌, ◌<◌, ◌≤◌, true, false, cond, List, [], ◌∷◌, map, length, sum_by, filter, ap, subst, ⊎_elim, mul_comm, div-lt_iff_lt-mul, arith}
 use Rattle.std.proofs.ByRecursion.{All-weaker}
 use Rattle.std.proofs.lemmas.Bool.{and_parts, and_from, both_ways, cases_Bool, cases_lt, leb-true, lt-ltb, ltb-true}
-use Rattle.std.specs.List.{AllByRecursion as All}
+use Rattle.std.specs.List.{AllByRecursion}
 use Rattle.analysis.specs.declared.task.Task.{Task}
 use Rattle.analysis.specs.declared.task.BoundedTask.{BoundedTask}
 use Rattle.analysis.specs.Interference.{extra, interference, level_of, passes, taken}
@@ -61,14 +61,14 @@ module _ (m : ℕ) (set : List BoundedTask) (start now : ℕ) (s : Schedule) (le
       (cases_Bool (carries s from l))
 
   -- what they all have
-  shares_within : (above : List BoundedTask) → All (Known set now s) above → All (Above k) above → length (filter (λ i. carries s from (level_of i)) above) ≤ m - 1 → sum_by (λ i. share m s k.level from y (level_of i)) above ≤ interference k above m x
+  shares_within : (above : List BoundedTask) → AllByRecursion (Known set now s) above → AllByRecursion (Above k) above → length (filter (λ i. carries s from (level_of i)) above) ≤ m - 1 → sum_by (λ i. share m s k.level from y (level_of i)) above ≤ interference k above m x
   unfolding interference
   shares_within above known each few =
       let a = sum_chosen (λ i. share m s k.level from y (level_of i)) (plain k x) (extra k x) (λ i. carries s from (level_of i)) above (joined above known each) in
       let b = chosen_best (extra k x) (λ i. carries s from (level_of i)) (m - 1) above few in
       omega (arith, largest_best (m - 1) (map (extra k x) above))
     where
-      joined : (is : List BoundedTask) → All (Known set now s) is → All (Above k) is → All (λ i. share m s k.level from y (level_of i) ≤ plain k x i + cond (carries s from (level_of i)) (extra k x i) 0) is
+      joined : (is : List BoundedTask) → AllByRecursion (Known set now s) is → AllByRecursion (Above k) is → AllByRecursion (λ i. share m s k.level from y (level_of i) ≤ plain k x i + cond (carries s from (level_of i)) (extra k x i) 0) is
       joined [] f g = tt
       joined (i ∷ is) f g = (share_within i f.0 g.0, joined is f.1 g.1)
 
@@ -81,7 +81,7 @@ module _ (m : ℕ) (set : List BoundedTask) (start now : ℕ) (s : Schedule) (le
       (λ (h : s.there t i ≡ false). h)
       (cases_Bool (s.there t i))
 
-  module _ (k : BoundedTask) (above : List BoundedTask) (case : Case k.task above m k.bound) (tested : passes k.task m k.bound (interference k.task above m k.bound) ≡ true) (stands : at_level (level_of k) set ≡ k) (known : All (Known set now s) above) (empty : (u : ℕ) → u < level_of k → taken level_of u above ≡ false → run_at set u ≡ 0) where
+  module _ (k : BoundedTask) (above : List BoundedTask) (case : Case k.task above m k.bound) (tested : passes k.task m k.bound (interference k.task above m k.bound) ≡ true) (stands : at_level (level_of k) set ≡ k) (known : AllByRecursion (Known set now s) above) (empty : (u : ℕ) → u < level_of k → taken level_of u above ≡ false → run_at set u ≡ 0) where
     never_late : (t : ℕ) → t ≤ now → s.there t (level_of k) ≡ true → s.since t (level_of k) + k.bound ≤ t → ⊥
     never_late t n here late =
         let l = level_of k in

@@ -2,7 +2,7 @@
 use Rattle.std.proofs.Common.{◌≡◌, ℕ, ◌+◌, ◌<◌, ◌≤◌, true, false, List, [], ◌∷◌, ◌++◌, sym, refl, ap, ◌∙◌, arith}
 use Rattle.std.proofs.ByRecursion.{All-push, All-weaker}
 use Rattle.std.proofs.lemmas.List.{append_assoc}
-use Rattle.std.specs.List.{AllByRecursion as All}
+use Rattle.std.specs.List.{AllByRecursion}
 use Rattle.analysis.specs.declared.task.BoundedTask.{BoundedTask}
 use Rattle.analysis.specs.Interference.{level_of, taken}
 use Rattle.analysis.specs.Kept.{Kept}
@@ -16,22 +16,22 @@ use Rattle.schedule.proofs.ByLevel.{taken_append, taken_push, taken_last, taken_
 use Rattle.schedule.proofs.Interfering.{Known, keeps_bound}
 
 -- a kept task is less urgent than those above it
-below : (m : ℕ) (above : List BoundedTask) (i : BoundedTask) → Case i.task above m i.bound → All (λ j. level_of j < level_of i) above
+below : (m : ℕ) (above : List BoundedTask) (i : BoundedTask) → Case i.task above m i.bound → AllByRecursion (λ j. level_of j < level_of i) above
 below m above i case = All-weaker (Above i.task) (λ j. level_of j < level_of i) (λ j a. a.urgent) above case.each
 
 -- the tasks after one are less urgent
-later : (m l : ℕ) (above is : List BoundedTask) → taken level_of l above ≡ true → Kept m above is → All (λ j. l < level_of j) is
+later : (m l : ℕ) (above is : List BoundedTask) → taken level_of l above ≡ true → Kept m above is → AllByRecursion (λ j. l < level_of j) is
 later m l above [] e k = tt
 later m l above (i ∷ is) e k =
     (taken_below l (level_of i) above (below m above i (case_from i.task above m i.bound k.0.fits)) e, later m l (above ++ i ∷ []) is (taken_push l above i e) k.1)
 
 -- the bounds are within the deadlines
-within : (m : ℕ) (above is : List BoundedTask) → Kept m above is → All (λ i. i.bound ≤ i.task.deadline) is
+within : (m : ℕ) (above is : List BoundedTask) → Kept m above is → AllByRecursion (λ i. i.bound ≤ i.task.deadline) is
 within m above [] k = tt
 within m above (i ∷ is) k = ((case_from i.task above m i.bound k.0.fits).high, within m (above ++ i ∷ []) is k.1)
 
 module _ (m : ℕ) (set : List BoundedTask) (start now : ℕ) (s : Schedule) (legal : Legal m set start now s) where
-  walk : (above is : List BoundedTask) → above ++ is ≡ set → Kept m above is → All (Known set now s) above → All (Known set now s) is
+  walk : (above is : List BoundedTask) → above ++ is ≡ set → Kept m above is → AllByRecursion (Known set now s) above → AllByRecursion (Known set now s) is
   walk above [] e k a = tt
   walk above (i ∷ is) e k a =
       let l = level_of i in

@@ -2,7 +2,7 @@
 use Rattle.std.proofs.Common.{◌≡◌, ℕ, zero, suc, ◌+◌, ◌*◌, ◌<◌, ◌≤◌, Bool, true, false, cond, not, ◌&&◌, eqb, List, [], ◌∷◌, length, sum_by, filter, sym, refl, ap, ◌∙◌, ⊎_elim, mul-one, mul-add, arith}
 use Rattle.std.proofs.lemmas.List.Sums.{sum_by-cons}
 use Rattle.std.proofs.lemmas.Bool.{and_parts, not-true, or_parts, or_from, eq-eqb, ne_eqb, cases_eq}
-use Rattle.std.specs.List.{AllByRecursion as All}
+use Rattle.std.specs.List.{AllByRecursion}
 use Rattle.analysis.specs.Interference.{taken, distinct}
 use Rattle.schedule.specs.Running.{bit, num}
 
@@ -111,7 +111,7 @@ module _ {X : Type 0} (level : X → ℕ) where
       split false = omega arith
 
   -- a list without a level twice has at most as many tasks with p as there are levels with it
-  pub kept_by_level : (p : ℕ → Bool) (n : ℕ) (xs : List X) → distinct level xs ≡ true → All (λ x. level x < n) xs → length (filter (λ x. p (level x)) xs) ≤ num p n
+  pub kept_by_level : (p : ℕ → Bool) (n : ℕ) (xs : List X) → distinct level xs ≡ true → AllByRecursion (λ x. level x < n) xs → length (filter (λ x. p (level x)) xs) ≤ num p n
   kept_by_level p n [] d a = omega arith
   kept_by_level p n (x ∷ xs) d a =
       let q = and_parts (not (taken level (level x) xs)) (distinct level xs) d in
@@ -120,7 +120,7 @@ module _ {X : Type 0} (level : X → ℕ) where
       omega (arith, num_but (level x) p n a.0, length_kept (λ x. p (level x)) x xs)
 
 -- a sum that is at most a plain part, and for the chosen tasks an extra part
-pub sum_chosen : {X : Type 0} (f g h : X → ℕ) (p : X → Bool) (xs : List X) → All (λ x. f x ≤ g x + cond (p x) (h x) 0) xs → sum_by f xs ≤ sum_by g xs + sum_by h (filter p xs)
+pub sum_chosen : {X : Type 0} (f g h : X → ℕ) (p : X → Bool) (xs : List X) → AllByRecursion (λ x. f x ≤ g x + cond (p x) (h x) 0) xs → sum_by f xs ≤ sum_by g xs + sum_by h (filter p xs)
 sum_chosen f g h p [] a = omega arith
 sum_chosen f g h p (x ∷ xs) a = split (p x) a.0 (sum_chosen f g h p xs a.1)
   where

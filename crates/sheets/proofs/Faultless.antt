@@ -1,6 +1,6 @@
 -- What follows where no line is at fault: what was read is what the lines say.
 use Rattle.std.proofs.Common.{◌≡◌, ℕ, ◌≤◌, true, List, [], ◌∷◌, ◌++◌, length, is_ok, Some, None, Ok, Err, Option, Result, refl, ap, ◌∙◌, subst, append_assoc, append-nil, arith}
-use Rattle.std.specs.List.{AllByRecursion as All}
+use Rattle.std.specs.List.{AllByRecursion}
 use Rattle.analysis.specs.declared.task.Task.{Task}
 use Rattle.sheets.specs.declared.entry.Entry.{Entry}
 use Rattle.sheets.specs.declared.entry.Entry.TheVariants as entry
@@ -41,7 +41,7 @@ module _ (before : List (List ℕ)) where
   one_rule_more (Ok (entry.Task k)) e few = rw append-nil few
   one_rule_more (Err f) e few = rw append-nil few
 
-all_read : (before ls : List (List ℕ)) → first_fault before ls ≡ None → All (λ l. is_ok (line_entry l) ≡ true) ls
+all_read : (before ls : List (List ℕ)) → first_fault before ls ≡ None → AllByRecursion (λ l. is_ok (line_entry l) ≡ true) ls
 all_read before [] e = tt
 all_read before (l ∷ ls) e =
     let clean = none_here _ (fault_of before (line_entry l)) _ e in
@@ -92,5 +92,5 @@ says text p e =
     let ls = lines text in
     let clean = no_fault (first_fault [] ls) _ p e in
     let got = parts (length ls) (all_cores ls) (all_rules ls) (all_tasks ls) p clean.1 (few_cores [] ls clean.0 (omega arith)) (few_rules [] ls clean.0 (omega arith)) in
-    let range = subst (All (λ n. (1 ≤ n) × (n ≤ 8))) got.cores (cores_in_range ls) in
+    let range = subst (AllByRecursion (λ n. (1 ≤ n) × (n ≤ 8))) got.cores (cores_in_range ls) in
     record { readable = all_read [] ls clean.0; one_cores = got.cores; some_core = range.0.0; few_cores = range.0.1; one_rule = got.rule; tasks_in_order = got.tasks }

@@ -2,7 +2,7 @@
 use Rattle.std.proofs.Common.{◌≡◌, ℕ, suc, ◌+◌, ◌<◌, ◌≤◌, true, false, cond, eqb, List, [], ◌∷◌, ◌++◌, length, get_or, take, is_ok, IfOk, Ok, Err, vec_items, vec_len, filter, Option, Result, Vec, sym, refl, ap, ◌∙◌, append-nil, arith, Bor}
 use lib.ListN.{length-map}
 use Rattle.std.specs.Str.Iter.{LacksByte, IsSplitnRun, CutsAtEveryByte}
-use Rattle.std.specs.List.{join_with_byte, AllByRecursion as All}
+use Rattle.std.specs.List.{join_with_byte, AllByRecursion}
 use Rattle.std.specs.Iterator.Runs.{Run, WholeRun, EachRunFrom}
 use Rattle.std.proofs.iter.runs.Lists.{Everywhere}
 use Rattle.std.proofs.iter.runs.Made.{seen, each_of}
@@ -26,13 +26,13 @@ piece_first c [] ys h = cond-true _ _ _ (eq-eqb c c refl)
 piece_first c (x ∷ xs) ys h =
     cond-false _ _ _ (ne_eqb x c (h 0 (omega arith))) ∙ ap (onto x) (piece_first c xs ys (lacks_rest c x xs h))
 
-pub pieces_rejoined : (c : ℕ) (ps : List (List ℕ)) → 0 < length ps → All (LacksByte c) ps → pieces c (join_with_byte c ps) ≡ ps
+pub pieces_rejoined : (c : ℕ) (ps : List (List ℕ)) → 0 < length ps → AllByRecursion (LacksByte c) ps → pieces c (join_with_byte c ps) ≡ ps
 pieces_rejoined c [] some h = absurd (omega arith)
 pieces_rejoined c (p ∷ []) some h = piece_alone c p h.0
 pieces_rejoined c (p ∷ q ∷ ps) some h =
     piece_first c p (join_with_byte c (q ∷ ps)) h.0 ∙ ap (λ l. p ∷ l) (pieces_rejoined c (q ∷ ps) (omega arith) h.1)
 
-all_lack : (c : ℕ) (ss : List (Bor (List ℕ))) → Everywhere ss (λ s. LacksByte c s.now) → All (LacksByte c) (texts ss)
+all_lack : (c : ℕ) (ss : List (Bor (List ℕ))) → Everywhere ss (λ s. LacksByte c s.now) → AllByRecursion (LacksByte c) (texts ss)
 all_lack c [] h = tt
 all_lack c (s ∷ ss) h = (h 0, all_lack c ss (λ k. h (suc k)))
 

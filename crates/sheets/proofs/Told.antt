@@ -14,7 +14,7 @@ use Rattle.sheets.specs.Drafts.{CoresFit, fault_after, Grown, Put, Holds, Entere
 use Rattle.sheets.specs.Lines.{and_then, number_of, counted, words_entry, line_entry}
 use Rattle.sheets.specs.Reading.{cores_told, rule_told, task_told, all_cores, all_rules, all_tasks, again, fault_of}
 use Rattle.std.proofs.ByRecursion.{All-append}
-use Rattle.std.specs.List.{AllByRecursion as All}
+use Rattle.std.specs.List.{AllByRecursion}
 use Rattle.sheets.specs.Words.{words}
 
 -- the entry fits, if there is one
@@ -49,7 +49,7 @@ line_fits line x e = subst FitIn (sym e) (either_fits (eqb (get_or line 0 0) 35)
 
 -- what a line tells of the cores is in range
 abbrev InRange : List ℕ → Type 0
-InRange ns = All (λ n. (1 ≤ n) × (n ≤ 8)) ns
+InRange ns = AllByRecursion (λ n. (1 ≤ n) × (n ≤ 8)) ns
 
 told_in_range : (r : Result Entry Fault) → FitIn r → InRange (cores_told r)
 told_in_range (Ok entry.Blank) h = tt

@@ -1,6 +1,6 @@
 -- What a whole sheet says, or which line is at fault and why.
 use Rattle.std.specs.Prelude.{◌≡◌, ℕ, suc, ◌≤◌, true, List, [], ◌∷◌, ◌++◌, length, is_ok, Some, None, Ok, Err, Option, Result}
-use Rattle.std.specs.List.{flat_map, AllByRecursion as All}
+use Rattle.std.specs.List.{flat_map, AllByRecursion}
 use Rattle.analysis.specs.declared.task.Task.{Task}
 use Rattle.sheets.specs.declared.entry.Entry.{Entry}
 use Rattle.sheets.specs.declared.entry.Entry.TheVariants as entry
@@ -90,7 +90,7 @@ read_text text = read_lines (lines text)
 -- the law above these definitions: what was read is what the lines say. Each line can be read, one line tells the cores,
 -- one to eight, one tells the rule, and the tasks are those of the task lines in their order.
 pub record Says (text : List ℕ) (p : Page) : Type 0 where
-  pub readable : All (λ l. is_ok (line_entry l) ≡ true) (lines text)
+  pub readable : AllByRecursion (λ l. is_ok (line_entry l) ≡ true) (lines text)
   pub one_cores : all_cores (lines text) ≡ p.cores ∷ []
   pub some_core : 1 ≤ p.cores
   pub few_cores : p.cores ≤ 8
