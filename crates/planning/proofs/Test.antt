@@ -37,18 +37,18 @@ surpluses k [] = refl
 surpluses k (i ∷ is) = (λ j. (carried_published k i j - plain_published k i j) ∷ surpluses k is j)
 
 -- the interference is the largest load over all choices
-interference_published : (k : Task) (above : List Task) (m : ℕ) → interference k (all_at_deadline above) m k.deadline ≡ sum_by (i_nc k) above + best (m - 1) (map (surplus k) above)
+pub interference_published : (k : Task) (above : List Task) (m : ℕ) → interference k (all_at_deadline above) m k.deadline ≡ sum_by (i_nc k) above + best (m - 1) (map (surplus k) above)
 unfolding interference
 interference_published k above m =
     (λ j. plains k above j + (largest_best (m - 1) (map (extra k k.deadline) (all_at_deadline above)) ∙ ap (best (m - 1)) (surpluses k above)) j)
 
 -- the test without a division
-passes_below : (c x m total : ℕ) → 1 ≤ m → c ≤ x → total / m + c ≤ x → total < m * (x - c + 1)
+pub passes_below : (c x m total : ℕ) → 1 ≤ m → c ≤ x → total / m + c ≤ x → total < m * (x - c + 1)
 passes_below c x m total low h p =
     let q : total / m < x - c + 1 = omega arith in
     subst (λ n. total < n) (mul_comm (x - c + 1) m) ((div-lt_iff_lt-mul low).0 q)
 
-passes_from_below : (c x m total : ℕ) → 1 ≤ m → c ≤ x → total < m * (x - c + 1) → total / m + c ≤ x
+pub passes_from_below : (c x m total : ℕ) → 1 ≤ m → c ≤ x → total < m * (x - c + 1) → total / m + c ≤ x
 passes_from_below c x m total low h p =
     let q : total / m < x - c + 1 = (div-lt_iff_lt-mul low).1 (subst (λ n. total < n) (mul_comm m (x - c + 1)) p) in omega arith
 

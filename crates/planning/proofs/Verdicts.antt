@@ -14,21 +14,21 @@ use Rattle.planning.proofs.Test.{passes_satisfies, satisfies_passes, reached, fa
 use Rattle.planning.proofs.Walks.{Walk, walk_more, walk_from}
 
 -- the most urgent task of ks that breaks the test, `seen` being the tasks before them
-record BrokenFrom (m : ℕ) (seen ks : List Task) (level : ℕ) : Type 0 where
-  above : List Task
-  task : Task
-  below : List Task
-  split : ks ≡ above ++ task ∷ below
-  at_level : task.level ≡ level
-  above_satisfy : EachSatisfies m seen above
-  choice : ℕ → Bool
-  few : length (chosen choice (seen ++ above)) ≤ m - 1
-  breaks : limit m task ≤ load task (seen ++ above) choice
+pub record BrokenFrom (m : ℕ) (seen ks : List Task) (level : ℕ) : Type 0 where
+  pub above : List Task
+  pub task : Task
+  pub below : List Task
+  pub split : ks ≡ above ++ task ∷ below
+  pub at_level : task.level ≡ level
+  pub above_satisfy : EachSatisfies m seen above
+  pub choice : ℕ → Bool
+  pub few : length (chosen choice (seen ++ above)) ≤ m - 1
+  pub breaks : limit m task ≤ load task (seen ++ above) choice
 
-refused_not_accepted : (r : Refusal) → Refused r ≡ Accepted → ⊥
+pub refused_not_accepted : (r : Refusal) → Refused r ≡ Accepted → ⊥
 refused_not_accepted r e = let z : ◌≡◌ {A = ℕ} 0 1 = cc in omega arith
 
-same_refused : (a b : ℕ) → Refused (NoBound a) ≡ Refused (NoBound b) → a ≡ b
+pub same_refused : (a b : ℕ) → Refused (NoBound a) ≡ Refused (NoBound b) → a ≡ b
 same_refused a b e = cc
 
 module _ (m : ℕ) (low : 1 ≤ m) (high : m ≤ 8) where
@@ -122,7 +122,7 @@ module _ (m : ℕ) (low : 1 ≤ m) (high : m ≤ 8) where
 fault_kind : (before : List Task) (k : Task) (l : ℕ) → task_fault before k ≡ Some (NoBound l) → ⊥
 fault_kind before k l e = grind arith
 
-first_fault_kind : (before ks : List Task) (l : ℕ) → first_fault before ks ≡ Some (NoBound l) → ⊥
+pub first_fault_kind : (before ks : List Task) (l : ℕ) → first_fault before ks ≡ Some (NoBound l) → ⊥
 first_fault_kind before [] l e = let z : ◌≡◌ {A = ℕ} 0 1 = cc in omega arith
 first_fault_kind before (k ∷ ks) l e = split (task_fault before k) refl (λ h. first_fault_kind (before ++ k ∷ []) ks l h)
   where

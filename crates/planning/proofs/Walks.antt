@@ -15,7 +15,7 @@ use Rattle.analysis.specs.Tasks.{within_limits, bound_fits}
 use Rattle.analysis.proofs.Facts.{limits_from}
 use Rattle.planning.proofs.Urgency.{faultless_from, taken_sort}
 
-abbrev Fits : Task → Type 0
+abbrev pub Fits : Task → Type 0
 Fits k = within_limits k ≡ true
 
 -- each comes after level l
@@ -135,7 +135,7 @@ all_insert P k (y ∷ s) p a = split (more_urgent y k) (all_insert P k s p a.1)
     split true h = (a.0, h)
     split false h = (p, a)
 
-all_sort : (P : Task → Type 0) (ks : List Task) → AllByRecursion P ks → AllByRecursion P (by_level ks)
+pub all_sort : (P : Task → Type 0) (ks : List Task) → AllByRecursion P ks → AllByRecursion P (by_level ks)
 all_sort P [] a = tt
 all_sort P (k ∷ ks) a = all_insert P k (by_level ks) a.0 (all_sort P ks a.1)
 
@@ -151,7 +151,7 @@ rising_insert k (y ∷ s) r t =
         let q : k.level < y.level = let g = ltb-false y.level k.level e in let d = eqb-false y.level k.level n in omega arith in
         ((q, after_less k.level y.level s q r.0), r)
 
-rising_sort : (ks : List Task) → distinct task_level ks ≡ true → Rising (by_level ks)
+pub rising_sort : (ks : List Task) → distinct task_level ks ≡ true → Rising (by_level ks)
 rising_sort [] d = tt
 rising_sort (k ∷ ks) d =
     let p = and_parts (not (taken task_level k.level ks)) (distinct task_level ks) d in

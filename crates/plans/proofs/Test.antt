@@ -13,47 +13,8 @@ use Rattle.analysis.proofs.Largest.{best, largest_best, chosen_best, best_reache
 use Rattle.rules.specs.Rules.{deadline}
 use Rattle.rules.specs.Search.{passes_by}
 use Rattle.rules.proofs.Walks.{Walk, walk_lawful}
-use Rattle.plans.proofs.Walks.{distinct_deadline}
-
--- what is left over is the window less the whole gaps
-amount_by_product : (c t y : ℕ) → amount c t y ≡ y / t * c + min c (y - y / t * t)
-unfolding amount
-amount_by_product c t y = let e : y % t ≡ y - y / t * t = omega (arith, div-add-mod' y t) in ap (λ r. y / t * c + min c r) e
-
-pub plain_published : (k i : Task) → plain k k.deadline (at_deadline i) ≡ i_nc k i
-plain_published k i = ap (λ a. min a (cap k k.deadline)) (amount_by_product i.run i.gap k.deadline)
-
-pub carried_published : (k i : Task) → carried k k.deadline (at_deadline i) ≡ i_ci k i
-carried_published k i =
-    ap (λ a. min a (cap k k.deadline)) (amount_by_product i.run i.gap (k.deadline + i.deadline - i.run))
-
-abbrev pub surplus : Task → Task → ℕ
-surplus k i = i_ci k i - i_nc k i
-
-plains : (k : Task) (above : List Task) → sum_by (plain k k.deadline) (all_at_deadline above) ≡ sum_by (i_nc k) above
-plains k [] = refl
-plains k (i ∷ is) =
-    omega (arith, plains k is, plain_published k i, sum_by-cons (plain k k.deadline) (at_deadline i) (all_at_deadline is), sum_by-cons (i_nc k) i is)
-
-surpluses : (k : Task) (above : List Task) → map (extra k k.deadline) (all_at_deadline above) ≡ map (surplus k) above
-surpluses k [] = refl
-surpluses k (i ∷ is) = (λ j. (carried_published k i j - plain_published k i j) ∷ surpluses k is j)
-
--- the interference is the largest load over all choices
-interference_published : (k : Task) (above : List Task) (m : ℕ) → interference k (all_at_deadline above) m k.deadline ≡ sum_by (i_nc k) above + best (m - 1) (map (surplus k) above)
-unfolding interference
-interference_published k above m =
-    (λ j. plains k above j + (largest_best (m - 1) (map (extra k k.deadline) (all_at_deadline above)) ∙ ap (best (m - 1)) (surpluses k above)) j)
-
--- the test without a division
-passes_below : (c x m total : ℕ) → 1 ≤ m → c ≤ x → total / m + c ≤ x → total < m * (x - c + 1)
-passes_below c x m total low h p =
-    let q : total / m < x - c + 1 = omega arith in
-    subst (λ n. total < n) (mul_comm (x - c + 1) m) ((div-lt_iff_lt-mul low).0 q)
-
-passes_from_below : (c x m total : ℕ) → 1 ≤ m → c ≤ x → total < m * (x - c + 1) → total / m + c ≤ x
-passes_from_below c x m total low h p =
-    let q : total / m < x - c + 1 = (div-lt_iff_lt-mul low).1 (subst (λ n. total < n) (mul_comm m (x - c + 1)) p) in omega arith
+use Rattle.planning.proofs.Test.{surplus, interference_published, passes_below, passes_from_below}
+use Rattle.planning.proofs.Walks.{distinct_deadline}
 
 -- the rule's test of task k at its deadline, against the tasks `seen`
 abbrev pub at_its_deadline : ℕ → List Task → Task → Bool

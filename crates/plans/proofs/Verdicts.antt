@@ -21,24 +21,7 @@ use Rattle.rules.proofs.Rebounds.{rebound_some, rebound_none}
 use Rattle.rules.proofs.Walks.{Walk, walk_more}
 use Rattle.plans.proofs.Test.{at_its_deadline, passes_satisfies, satisfies_passes, reached, fails_breaks}
 use Rattle.plans.proofs.Walks.{walk_from}
-
--- the most urgent task of ks that breaks the test, `seen` being the tasks before them
-record BrokenFrom (m : ℕ) (seen ks : List Task) (level : ℕ) : Type 0 where
-  above : List Task
-  task : Task
-  below : List Task
-  split : ks ≡ above ++ task ∷ below
-  at_level : task.level ≡ level
-  above_satisfy : EachSatisfies m seen above
-  choice : ℕ → Bool
-  few : length (chosen choice (seen ++ above)) ≤ m - 1
-  breaks : limit m task ≤ load task (seen ++ above) choice
-
-pub refused_not_accepted : (r : Refusal) → Refused r ≡ Accepted → ⊥
-refused_not_accepted r e = let z : ◌≡◌ {A = ℕ} 0 1 = cc in omega arith
-
-pub same_refused : (a b : ℕ) → Refused (NoBound a) ≡ Refused (NoBound b) → a ≡ b
-same_refused a b e = cc
+use Rattle.planning.proofs.Verdicts.{BrokenFrom, first_fault_kind, refused_not_accepted, same_refused}
 
 module _ (m : ℕ) where
   abbrev verdict : List Task → List Task → Verdict
@@ -145,18 +128,6 @@ module _ (m : ℕ) where
               breaks = b.breaks;
             };
       }
-
--- a fault of the list is never the want of a bound
-fault_kind : (before : List Task) (k : Task) (l : ℕ) → task_fault before k ≡ Some (NoBound l) → ⊥
-fault_kind before k l e = grind arith
-
-pub first_fault_kind : (before ks : List Task) (l : ℕ) → first_fault before ks ≡ Some (NoBound l) → ⊥
-first_fault_kind before [] l e = let z : ◌≡◌ {A = ℕ} 0 1 = cc in omega arith
-first_fault_kind before (k ∷ ks) l e = split (task_fault before k) refl (λ h. first_fault_kind (before ++ k ∷ []) ks l h)
-  where
-    split : (o : Option Refusal) → task_fault before k ≡ o → (first_fault (before ++ k ∷ []) ks ≡ Some (NoBound l) → ⊥) → ⊥
-    split None p h = h (ap (λ o. or_else o (first_fault (before ++ k ∷ []) ks)) (sym p) ∙ e)
-    split (Some r) p h = fault_kind before k l (p ∙ ap (λ o. or_else o (first_fault (before ++ k ∷ []) ks)) (sym p) ∙ e)
 
 -- the verdict of a plan
 pub verdict_judged : (m : ℕ) → 1 ≤ m → m ≤ 8 → (tasks : List Task) → Judged m tasks (verdict_after (first_fault [] tasks) (verdict m [] (by_level tasks)))
