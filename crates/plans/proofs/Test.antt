@@ -1,15 +1,13 @@
 -- The deadline rule is the published test. Assumes nothing.
-use Rattle.std.proofs.Common.{◌≡◌, ℕ, ◌+◌, ◌-◌, ◌*◌, ◌/◌, ◌%◌, ◌<◌, ◌≤◌, min, Bool, true, false, List, [], ◌∷◌, map, sum_by, sym, refl, ap, ◌∙◌, subst, ⊎_elim, mul_comm, div-lt_iff_lt-mul, div-add-mod', arith}
-use Rattle.std.proofs.lemmas.List.Sums.{sum_by-cons}
+use Rattle.std.proofs.Common.{◌≡◌, ℕ, ◌+◌, ◌-◌, ◌/◌, ◌<◌, ◌≤◌, Bool, true, false, List, ◌∷◌, map, sum_by, sym, ◌∙◌, subst, ⊎_elim, arith}
 use Rattle.std.proofs.lemmas.Bool.{leb-true, leb-false, le-leb, cond-true, cases_lt}
 use Rattle.analysis.specs.declared.task.Task.{Task}
 use Rattle.planning.specs.Admission.{task_level}
-use Rattle.analysis.specs.Interference.{extra, interference, lawful, total}
+use Rattle.analysis.specs.Interference.{lawful, total}
 use Rattle.planning.specs.Plans.{at_deadline, all_at_deadline}
-use Rattle.planning.specs.Published.{i_nc, i_ci, load, limit, Satisfies}
-use Rattle.analysis.specs.Work.{amount, plain, carried, cap}
+use Rattle.planning.specs.Published.{i_nc, load, limit, Satisfies}
 use Rattle.analysis.proofs.Facts.{Limits, limits_from}
-use Rattle.analysis.proofs.Largest.{best, largest_best, chosen_best, best_reached, Reached}
+use Rattle.analysis.proofs.Largest.{best, chosen_best, best_reached, Reached}
 use Rattle.rules.specs.Rules.{deadline}
 use Rattle.rules.specs.Search.{passes_by}
 use Rattle.rules.proofs.Walks.{Walk, walk_lawful}

@@ -7,7 +7,7 @@ use Rattle.planning.specs.declared.refusal.Refusal.TheVariants.{NoBound}
 use Rattle.analysis.specs.declared.task.Task.{Task}
 use Rattle.planning.specs.declared.verdict.Verdict.{Verdict}
 use Rattle.planning.specs.declared.verdict.Verdict.TheVariants.{Accepted, Refused}
-use Rattle.planning.specs.Admission.{task_fault, or_else, first_fault, by_level}
+use Rattle.planning.specs.Admission.{first_fault, by_level}
 use Rattle.planning.specs.Plans.{at_deadline, all_at_deadline, verdict_after}
 use Rattle.plans.specs.Plans.{verdict_on}
 use Rattle.planning.specs.Published.{chosen, load, limit, EachSatisfies, Judged}
