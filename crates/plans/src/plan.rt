@@ -4,7 +4,7 @@ ghost use Rattle.planning.specs.Plans.{core_count};
 ghost use Rattle.plans.specs.Plans.{rows_from, verdict_on, plan_rows, plan_verdict};
 ghost use Rattle.plans.specs.Promises.{Promised};
 ghost use Rattle.planning.specs.Published.{Judged};
-ghost use Rattle.rules.specs.Bounds.{rebound};
+ghost use Rattle.rules.specs.Bounds.{rebound, rebound_set};
 ghost use Rattle.rules.specs.Rules.{deadline};
 
 use analysis::task::{BoundedTask, Task};
@@ -38,6 +38,7 @@ pub fn rows<R: CountingRule>(
 }
 
 /// Works out the bounds of a sorted set, and the rows of the tasks above the first that has none; that one is refused.
+/// The set then shows the bounds that were found, also where memory for the rows runs out.
 pub fn judge<R: CountingRule>(
     heap: Global,
     rule: &R,
@@ -46,6 +47,7 @@ pub fn judge<R: CountingRule>(
 ) -> Result<Plan, AllocError>
     ensures rows { IfOk result (λ p. p.rows.items ≡ rows_from (R.CountingRule.rule rule.now) cores [] (rebound (R.CountingRule.rule rule.now) cores [] set.old).done) }
     ensures verdict { IfOk result (λ p. p.verdict ≡ verdict_on (rebound (R.CountingRule.rule rule.now) cores [] set.old).left) }
+    ensures set { set.new ≡ rebound_set (rebound (R.CountingRule.rule rule.now) cores [] set.old) }
 {
     match rebound(rule, cores, set, 0) {
         Ok(()) => {

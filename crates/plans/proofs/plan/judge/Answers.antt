@@ -27,4 +27,5 @@ returns-in_ok-rows-in-Err g c =
     record {
       rows = c.in_ok-rows-in-Err.ensures ∙ ap (λ n. rows_from r c.args.cores [] (take n c.rebound.new.set)) z ∙ ap (rows_from r c.args.cores []) t.front;
       verdict = t.refused;
+      set = c.in-Err.ensures.set;
     }
