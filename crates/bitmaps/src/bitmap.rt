@@ -12,39 +12,7 @@ use queues::queue::{Queue, WithdrawingQueue};
 #[derive(Clone, Copy)]
 pub struct Bitmap {
     bits: u64,
-}
-
-// The lowest level that is set.
-fn lowest(bits: u64) -> Option<Level>
-    ensures { result ≡ first_of (levels_in bits) }
-{
-    if bits == 0 {
-        return None;
-    }
-    Level::new(bits.trailing_zeros() as u16)
-}
-
-// Whether the level is set.
-fn is_set(bits: u64, level: Level) -> bool
-    ensures { result ≡ has level_before level (levels_in bits) }
-{
-    (bits >> level.number) & 1 == 1
-}
-
-// The bits with a level more.
-fn set(bits: u64, level: Level) -> u64
-    requires { has level_before level (levels_in bits) ≡ false }
-    ensures { levels_in result ≡ insert level_before level (levels_in bits) }
-{
-    bits | (1 << level.number)
-}
-
-// The bits with a level less.
-fn unset(bits: u64, level: Level) -> u64
-    requires { has level_before level (levels_in bits) ≡ true }
-    ensures { levels_in result ≡ remove level_before level (levels_in bits) }
-{
-    bits ^ (1 << level.number)
+    ghost fits: { bits < 2 ^ 64 },
 }
 
 impl Bitmap {
@@ -54,6 +22,39 @@ impl Bitmap {
         ensures items { levels_in result.bits ≡ [] }
     {
         Bitmap { bits: 0 }
+    }
+
+    // The lowest level that is set.
+    fn lowest(&self) -> Option<Level>
+        ensures { result ≡ first_of (levels_in self.now.bits) }
+    {
+        if self.bits == 0 {
+            return None;
+        }
+        Level::new(self.bits.trailing_zeros() as u16)
+    }
+
+    // Whether the level is set.
+    fn is_set(&self, level: Level) -> bool
+        ensures { result ≡ has level_before level (levels_in self.now.bits) }
+    {
+        (self.bits >> level.number) & 1 == 1
+    }
+
+    // Sets a level that is not set.
+    fn set(&mut self, level: Level)
+        requires { has level_before level (levels_in self.old.bits) ≡ false }
+        ensures { levels_in self.new.bits ≡ insert level_before level (levels_in self.old.bits) }
+    {
+        self.bits |= 1 << level.number;
+    }
+
+    // Clears a level that is set.
+    fn unset(&mut self, level: Level)
+        requires { has level_before level (levels_in self.old.bits) ≡ true }
+        ensures { levels_in self.new.bits ≡ remove level_before level (levels_in self.old.bits) }
+    {
+        self.bits ^= 1 << level.number;
     }
 }
 
@@ -80,20 +81,20 @@ impl Queue for Bitmap {
     }
 
     fn first(&self) -> Option<Level> {
-        lowest(self.bits)
+        self.lowest()
     }
 
     fn take(&mut self) -> Option<Level> {
-        let level = lowest(self.bits)?;
-        self.bits = unset(self.bits, level);
+        let level = self.lowest()?;
+        self.unset(level);
         Some(level)
     }
 
     fn put(&mut self, item: Level) -> Placed {
-        if is_set(self.bits, item) {
+        if self.is_set(item) {
             return Placed::Held;
         }
-        self.bits = set(self.bits, item);
+        self.set(item);
         Placed::Added
     }
 }
@@ -101,10 +102,10 @@ impl Queue for Bitmap {
 /// The bitmap as a queue from which any level can be withdrawn.
 impl WithdrawingQueue for Bitmap {
     fn withdraw(&mut self, item: Level) -> bool {
-        if !is_set(self.bits, item) {
+        if !self.is_set(item) {
             return false;
         }
-        self.bits = unset(self.bits, item);
+        self.unset(item);
         true
     }
 }

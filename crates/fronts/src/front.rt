@@ -16,12 +16,11 @@ pub struct Front<Q: Queue> {
 
 impl<Q: Queue> Front<Q> {
     /// An empty front on a queue, which is cleared. Its capacity is one more than the queue's.
-    pub fn new(below: Q) -> Front<Q>
+    pub fn new(mut below: Q) -> Front<Q>
         ensures good { Q.Queue.good result.below × FrontGood Q.Item.Order.before result.head (Q.Queue.items result.below) }
         ensures room { Q.Queue.room result.below ≡ Q.Queue.room below }
         ensures items { front_items result.head (Q.Queue.items result.below) ≡ [] }
     {
-        let mut below = below;
         below.clear();
         Front { head: None, below }
     }

@@ -2,4 +2,3 @@ pub mod Cells
 pub mod Searching
 pub mod Sifting
 pub mod Sorting
-pub mod Steps

@@ -26,6 +26,6 @@
 #![tactic(auto)]
 
 pub mod heap;
-mod moves;
 pub mod ready;
 mod sift;
+pub mod tree;

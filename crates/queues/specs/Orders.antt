@@ -19,20 +19,19 @@ level n p = record { number = n; small = p }
 pub same_level : (x y : Level) → x.number ≡ y.number → x ≡ y
 same_level x y e = same_made 63 level x.number y.number x.small y.small e
 
-abbrev extra : (a l : ℕ) → l ≤ 63 → Extra
-extra a l p = record { amount = a; level = l; small = p }
-
 pub same_extra : (x y : Extra) → x.amount ≡ y.amount → x.level ≡ y.level → x ≡ y
-same_extra x y a l =
-    ap (λ n. extra n x.level x.small) a ∙ same_made 63 (extra y.amount) x.level y.level x.small y.small l
+same_extra x y a l = ap (λ n. extra n x.level) a ∙ ap (extra y.amount) l
+  where
+    extra : ℕ → Level → Extra
+    extra n k = record { amount = n; level = k }
 
-abbrev wake_up : (t : ℕ) → t ≤ 2 ^ 40 + 60000 → (l : ℕ) → l ≤ 63 → WakeUp
-wake_up t e l p = record { tick = t; level = l; early = e; small = p }
+abbrev wake_up : (t : ℕ) → t ≤ 2 ^ 40 + 60000 → Level → WakeUp
+wake_up t e l = record { tick = t; level = l; early = e }
 
 pub same_wake_up : (x y : WakeUp) → x.tick ≡ y.tick → x.level ≡ y.level → x ≡ y
 same_wake_up x y t l =
-    same_made (2 ^ 40 + 60000) (λ n p. wake_up n p x.level x.small) x.tick y.tick x.early y.early t
-    ∙ same_made 63 (wake_up y.tick y.early) x.level y.level x.small y.small l
+    same_made (2 ^ 40 + 60000) (λ n p. wake_up n p x.level) x.tick y.tick x.early y.early t
+    ∙ ap (wake_up y.tick y.early) l
 
 pub level_lawful : Lawful level_before
 level_lawful = record {
@@ -45,12 +44,12 @@ pub extra_lawful : Lawful extra_before
 extra_lawful = record {
   irreflexive = λ x. grind (arith, nat_tests);
   transitive = λ x y z p q. grind (arith, nat_tests);
-  total = λ x y p q. same_extra x y (grind (arith, nat_tests)) (grind (arith, nat_tests));
+  total = λ x y p q. same_extra x y (grind (arith, nat_tests)) (same_level x.level y.level (grind (arith, nat_tests)));
 }
 
 pub wake_up_lawful : Lawful wake_up_before
 wake_up_lawful = record {
   irreflexive = λ x. grind (arith, nat_tests);
   transitive = λ x y z p q. grind (arith, nat_tests);
-  total = λ x y p q. same_wake_up x y (grind (arith, nat_tests)) (grind (arith, nat_tests));
+  total = λ x y p q. same_wake_up x y (grind (arith, nat_tests)) (same_level x.level y.level (grind (arith, nat_tests)));
 }

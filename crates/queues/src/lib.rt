@@ -2,10 +2,12 @@
 #![tactic(auto)]
 
 pub mod extra;
+pub mod extras;
 pub mod level;
+pub mod levels;
 pub mod order;
 pub mod placed;
 pub mod queue;
-pub mod ranks;
 pub mod sizes;
 pub mod wake_up;
+pub mod wake_ups;

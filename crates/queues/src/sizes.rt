@@ -5,5 +5,5 @@ ghost use Rattle.std.specs.Prelude.{◌≡◌, min};
 pub fn capped(n: usize) -> u16
     ensures { result ≡ min n 65535 }
 {
-    n.min(65_535) as u16
+    u16::try_from(n).unwrap_or(u16::MAX)
 }

@@ -11,12 +11,12 @@ returns c =
     let s = levels_in c.args.self.now.bits in
     let lacks = sym c.if-is_set.ensures in
     record {
-      good = λ h. omega arith;
+      good = λ h. c.set.new.self.fits;
       room = refl;
       answer = λ h.
           let f = not_full c.args.self.now.bits c.args.item h lacks in
           sym (cond-false (has level_before c.args.item s) _ _ lacks ∙ cond-false (eqb (length s) 64) _ _ (ne_eqb (length s) 64 (λ e. omega arith)));
       items = λ h.
           let f = not_full c.args.self.now.bits c.args.item h lacks in
-          c.set-self.ensures ∙ sym (cond-false (has level_before c.args.item s) _ _ lacks ∙ cond-false (eqb (length s) 64) _ _ (ne_eqb (length s) 64 (λ e. omega arith)));
+          c.set.ensures ∙ sym (cond-false (has level_before c.args.item s) _ _ lacks ∙ cond-false (eqb (length s) 64) _ _ (ne_eqb (length s) 64 (λ e. omega arith)));
     }

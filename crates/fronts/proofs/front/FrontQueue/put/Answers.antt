@@ -1,16 +1,11 @@
 use Rattle.std.proofs.Common.{suc, ap}
-use Rattle.queues.specs.Sets.{Lawful}
 use Rattle.fronts.proofs.Heads.{put_behind, put_before, put_refused}
-use Rattle.fronts.proofs.front.FrontQueue.put.Given as given
 use Rattle.fronts.proofs.front.FrontQueue.put.Goals as goal
-
-order : (g : given.Over) → Lawful g.Q.Item.Order.before
-order g = record { irreflexive = g.met.Q.Item.Order.irreflexive; transitive = g.met.Q.Item.Order.transitive; total = g.met.Q.Item.Order.total }
 
 pub returns-then-comes_before : goal.returns-then-comes_before
 returns-then-comes_before g c =
     let told = c.put.ensures in
-    let owed = λ (good : g.Q.Queue.good c.args.self.now.below). put_behind g.Q.Item.Order.before (order g) _ c.in-Some.head c.args.item _ _ _ _ c.in-Some.is c.if-comes_before.ensures (told.items good) (told.answer good) in
+    let owed = λ (good : g.Q.Queue.good c.args.self.now.below). put_behind g.Q.Item.Order.before g.met.Q.Item.Order.laws _ c.in-Some.head c.args.item _ _ _ _ c.in-Some.is c.if-comes_before.ensures (told.items good) (told.answer good) in
     record {
       good = λ good. (told.good good.0, (owed good.0 good.1).0);
       room = ap suc told.room;
@@ -21,7 +16,7 @@ returns-then-comes_before g c =
 pub returns-in-Added : goal.returns-in-Added
 returns-in-Added g c =
     let told = c.put-answer.ensures in
-    let owed = λ (good : g.Q.Queue.good c.args.self.now.below). put_before g.Q.Item.Order.before (order g) _ c.in-Some.head c.args.item _ _ _ _ c.in-Some.is c.if-not-comes_before.ensures c.in-Added.is (told.items good) (told.answer good) in
+    let owed = λ (good : g.Q.Queue.good c.args.self.now.below). put_before g.Q.Item.Order.before g.met.Q.Item.Order.laws _ c.in-Some.head c.args.item _ _ _ _ c.in-Some.is c.if-not-comes_before.ensures c.in-Added.is (told.items good) (told.answer good) in
     record {
       good = λ good. (told.good good.0, (owed good.0 good.1).0);
       room = ap suc told.room;
@@ -32,7 +27,7 @@ returns-in-Added g c =
 pub returns-in_default-answer : goal.returns-in_default-answer
 returns-in_default-answer g c =
     let told = c.put-answer.ensures in
-    let owed = λ (good : g.Q.Queue.good c.args.self.now.below). put_refused g.Q.Item.Order.before (order g) _ c.in-Some.head c.args.item _ _ _ _ c.in-Some.is c.if-not-comes_before.ensures c.in_default-answer.not-Added (told.items good) (told.answer good) in
+    let owed = λ (good : g.Q.Queue.good c.args.self.now.below). put_refused g.Q.Item.Order.before g.met.Q.Item.Order.laws _ c.in-Some.head c.args.item _ _ _ _ c.in-Some.is c.if-not-comes_before.ensures c.in_default-answer.not-Added (told.items good) (told.answer good) in
     record {
       good = λ good. (told.good good.0, (owed good.0 good.1).0);
       room = ap suc told.room;

@@ -1,16 +1,11 @@
 use Rattle.std.proofs.Common.{suc, refl, ap}
-use Rattle.queues.specs.Sets.{Lawful}
 use Rattle.fronts.proofs.Heads.{withdraw_behind, withdraw_none}
-use Rattle.fronts.proofs.front.FrontWithdrawingQueue.withdraw.Given as given
 use Rattle.fronts.proofs.front.FrontWithdrawingQueue.withdraw.Goals as goal
-
-order : (g : given.Over) → Lawful g.Q.Item.Order.before
-order g = record { irreflexive = g.met.Q.Item.Order.irreflexive; transitive = g.met.Q.Item.Order.transitive; total = g.met.Q.Item.Order.total }
 
 pub returns-then-comes_before : goal.returns-then-comes_before
 returns-then-comes_before g c =
     let told = c.withdraw.ensures in
-    let owed = λ (good : g.Q.Queue.good c.args.self.now.below). withdraw_behind g.Q.Item.Order.before (order g) c.in-Some.head c.args.item _ _ _ _ c.in-Some.is c.if-comes_before.ensures (told.items good) (told.answer good) in
+    let owed = λ (good : g.Q.Queue.good c.args.self.now.below). withdraw_behind g.Q.Item.Order.before g.met.Q.Item.Order.laws c.in-Some.head c.args.item _ _ _ _ c.in-Some.is c.if-comes_before.ensures (told.items good) (told.answer good) in
     record {
       good = λ good. (told.good good.0, (owed good.0 good.1).0);
       room = ap suc told.room;
@@ -20,7 +15,7 @@ returns-then-comes_before g c =
 
 pub returns-then-comes_before-2 : goal.returns-then-comes_before-2
 returns-then-comes_before-2 g c =
-    let owed = withdraw_none g.Q.Item.Order.before (order g) c.in-Some.head c.args.item (g.Q.Queue.items c.args.self.now.below) _ c.in-Some.is c.if-comes_before-2.ensures in
+    let owed = withdraw_none g.Q.Item.Order.before g.met.Q.Item.Order.laws c.in-Some.head c.args.item (g.Q.Queue.items c.args.self.now.below) _ c.in-Some.is c.if-comes_before-2.ensures in
     record {
       good = λ good. good;
       room = refl;
