@@ -12,6 +12,7 @@ use crate::task::{BoundedTask, Task};
 use crate::work;
 use heaps::heap::Heap;
 use queues::extra::Extra;
+use queues::level::Level;
 use queues::queue::Queue;
 
 // Puts the extra of a task at this level into the queue.
@@ -75,10 +76,11 @@ pub fn total(task: &Task, others: &[BoundedTask], cores: u8, window: u16) -> u32
     if !is_lawful(task, others, cores, window) {
         return u32::MAX;
     }
-    let mut cells = [Extra {
+    let free = Extra {
         amount: 0,
-        level: 0,
-    }; 32];
+        level: Level { number: 0 },
+    };
+    let mut cells = [free; 32];
     let mut queue = Heap::new(&mut cells);
     let plain = count_plain(&mut queue, task, window, others);
     plain + take_largest(&mut queue, cores - 1)

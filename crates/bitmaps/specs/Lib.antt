@@ -1,1 +1,2 @@
 pub mod Bitmaps
+pub mod Levels

@@ -1,6 +1,7 @@
 // A set of levels as the 64 bits of one number.
 ghost use Rattle.std.specs.Prelude.{◌≡◌, ◌^◌, ◌<◌, true, false, [], length};
 ghost use Rattle.bitmaps.specs.Bitmaps.{levels_in};
+ghost use Rattle.bitmaps.specs.Levels.{levels_rise, levels_within};
 ghost use Rattle.queues.specs.Items.{level_before};
 ghost use Rattle.queues.specs.Sets.{has, insert, remove, first_of};
 
@@ -67,6 +68,10 @@ impl Queue for Bitmap {
     ghost room = { λ _. 64 };
 
     ghost items = { λ q. levels_in q.bits };
+
+    ghost rises = { λ q good. levels_rise q.bits };
+
+    ghost within = { λ q good. levels_within q.bits good };
 
     fn clear(&mut self) {
         self.bits = 0;

@@ -1,6 +1,7 @@
 // The front: the first item of a queue, held before the queue.
 ghost use Rattle.std.specs.Prelude.{◌≡◌, suc, min, [], length};
 ghost use Rattle.fronts.specs.Fronts.{FrontGood, front_items};
+ghost use Rattle.fronts.specs.Laws.{front_rises, front_within};
 
 use queues::order::Order;
 use queues::placed::Placed;
@@ -38,6 +39,10 @@ where
     ghost room = { λ f. suc (Q.Queue.room f.below) };
 
     ghost items = { λ f. front_items f.head (Q.Queue.items f.below) };
+
+    ghost rises = { λ f good. front_rises Q.Item.Order.before f.head (Q.Queue.items f.below) good.1 };
+
+    ghost within = { λ f good. front_within Q.Item.Order.before f.head (Q.Queue.items f.below) (Q.Queue.room f.below) good.1 (Q.Queue.within f.below good.0) };
 
     fn clear(&mut self) {
         self.head = None;

@@ -19,8 +19,8 @@ level n p = record { number = n; small = p }
 pub same_level : (x y : Level) → x.number ≡ y.number → x ≡ y
 same_level x y e = same_made 63 level x.number y.number x.small y.small e
 
-pub same_extra : (x y : Extra) → x.amount ≡ y.amount → x.level ≡ y.level → x ≡ y
-same_extra x y a l = ap (λ n. extra n x.level) a ∙ ap (extra y.amount) l
+pub same_extra : (x y : Extra) → x.amount ≡ y.amount → x.level.number ≡ y.level.number → x ≡ y
+same_extra x y a l = ap (λ n. extra n x.level) a ∙ ap (extra y.amount) (same_level x.level y.level l)
   where
     extra : ℕ → Level → Extra
     extra n k = record { amount = n; level = k }
@@ -28,10 +28,10 @@ same_extra x y a l = ap (λ n. extra n x.level) a ∙ ap (extra y.amount) l
 abbrev wake_up : (t : ℕ) → t ≤ 2 ^ 40 + 60000 → Level → WakeUp
 wake_up t e l = record { tick = t; level = l; early = e }
 
-pub same_wake_up : (x y : WakeUp) → x.tick ≡ y.tick → x.level ≡ y.level → x ≡ y
+pub same_wake_up : (x y : WakeUp) → x.tick ≡ y.tick → x.level.number ≡ y.level.number → x ≡ y
 same_wake_up x y t l =
     same_made (2 ^ 40 + 60000) (λ n p. wake_up n p x.level) x.tick y.tick x.early y.early t
-    ∙ ap (wake_up y.tick y.early) l
+    ∙ ap (wake_up y.tick y.early) (same_level x.level y.level l)
 
 pub level_lawful : Lawful level_before
 level_lawful = record {
@@ -44,12 +44,12 @@ pub extra_lawful : Lawful extra_before
 extra_lawful = record {
   irreflexive = λ x. grind (arith, nat_tests);
   transitive = λ x y z p q. grind (arith, nat_tests);
-  total = λ x y p q. same_extra x y (grind (arith, nat_tests)) (same_level x.level y.level (grind (arith, nat_tests)));
+  total = λ x y p q. same_extra x y (grind (arith, nat_tests)) (grind (arith, nat_tests));
 }
 
 pub wake_up_lawful : Lawful wake_up_before
 wake_up_lawful = record {
   irreflexive = λ x. grind (arith, nat_tests);
   transitive = λ x y z p q. grind (arith, nat_tests);
-  total = λ x y p q. same_wake_up x y (grind (arith, nat_tests)) (same_level x.level y.level (grind (arith, nat_tests)));
+  total = λ x y p q. same_wake_up x y (grind (arith, nat_tests)) (grind (arith, nat_tests));
 }

@@ -8,7 +8,7 @@ use crate::order::Order;
 
 impl Level {
     /// The level of this number, or none where it is above 63.
-    // Stays beside no TryFrom, which is no plainer: an error type would tell no more than none does.
+    // Stays: a TryFrom is no plainer, since its error would tell no more than none does.
     pub fn new(number: u16) -> Option<Level>
         ensures { result ≡ new_level number }
     {

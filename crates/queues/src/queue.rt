@@ -1,5 +1,6 @@
 // The queue interfaces. A queue's meaning is a capacity and a set of items; the set is written as the strictly ascending
-// list of its items. What is promised is promised of a queue in good order, which `clear` establishes from any state.
+// list of its items, and is never larger than the capacity. What is promised is promised of a queue in good order, which
+// `clear` establishes from any state.
 ghost use Rattle.std.specs.Prelude.{◌≡◌, ℕ, ◌≤◌, min, List, [], length};
 ghost use Rattle.queues.specs.Sets.{has, remove, Sorted, first_of, rest_of, put_answer, put_set};
 
@@ -26,11 +27,9 @@ pub trait Queue {
     fn capacity(&self) -> u16
         ensures { good self.now → result ≡ min (room self.now) 65535 };
 
-    /// The size of the set, or 65,535 where that is larger. It also tells that the set ascends and fits the capacity.
+    /// The size of the set, or 65,535 where that is larger.
     fn count(&self) -> u16
-        ensures answer { good self.now → result ≡ min (length (items self.now)) 65535 }
-        ensures rises { good self.now → Sorted Self.Item.Order.before (items self.now) }
-        ensures within { good self.now → length (items self.now) ≤ room self.now };
+        ensures { good self.now → result ≡ min (length (items self.now)) 65535 };
 
     /// The item that comes first.
     fn first(&self) -> Option<Self::Item>
@@ -49,6 +48,10 @@ pub trait Queue {
         ensures room { room self.new ≡ room self.old }
         ensures answer { good self.old → result ≡ put_answer Self.Item.Order.before (room self.old) item (items self.old) }
         ensures items { good self.old → items self.new ≡ put_set Self.Item.Order.before (room self.old) item (items self.old) };
+
+    ghost rises: { (q : Self) → good q → Sorted Self.Item.Order.before (items q) };
+
+    ghost within: { (q : Self) → good q → length (items q) ≤ room q };
 }
 
 /// A queue from which a named item can be withdrawn.

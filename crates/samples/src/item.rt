@@ -28,12 +28,12 @@ impl Sample for WakeUp {
     fn of(number: u64) -> WakeUp {
         WakeUp {
             tick: 1_099_511_687_776 - number / 64 % 16,
-            level: (number % 64) as u8,
+            level: Level::of(number),
         }
     }
 
     fn code(&self) -> u64 {
-        self.tick * 64 + self.level as u64
+        self.tick * 64 + self.level.code()
     }
 }
 
@@ -41,11 +41,11 @@ impl Sample for Extra {
     fn of(number: u64) -> Extra {
         Extra {
             amount: (number / 64 % 16) as u32,
-            level: (number % 64) as u8,
+            level: Level::of(number),
         }
     }
 
     fn code(&self) -> u64 {
-        (4_294_967_295 - self.amount as u64) * 64 + self.level as u64
+        (4_294_967_295 - self.amount as u64) * 64 + self.level.code()
     }
 }

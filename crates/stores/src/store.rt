@@ -1,6 +1,7 @@
 // A queue over memory that the caller gives.
 ghost use Rattle.std.specs.Prelude.{◌≡◌, ◌+◌, ◌-◌, ◌<◌, ◌≤◌, min, [], length, take, List, false, true, slice_index_or};
 ghost use Rattle.queues.specs.Sets.{has, insert, remove};
+ghost use Rattle.stores.specs.Within.{set_within};
 
 use crate::layout::Layout;
 use queues::order::Order;
@@ -10,7 +11,7 @@ use queues::sizes::capped;
 use std::marker::PhantomData;
 
 /// A queue that holds its items in the first cells of the memory that it is given, as the layout has them stand.
-// Stays a slice with a length beside it: the memory is the caller's, who has no heap to take it from.
+// Stays: the memory is the caller's, and there is no heap to take a Vec from.
 #[derive(Drop)]
 pub struct Store<'a, T, L> {
     cells: &'a mut [T],
@@ -26,7 +27,7 @@ impl<'a, T: Order + Copy, L: Layout<T>> Store<'a, T, L> {
         ensures room { length result.cells.now ≡ min (length cells.old) 65535 }
         ensures items { L.Layout.set (take result.len result.cells.now) ≡ [] }
     {
-        let room = capped(cells.len()) as usize;
+        let room = usize::from(capped(cells.len()));
         Store {
             cells: &mut cells[..room],
             len: 0,
@@ -76,6 +77,10 @@ impl<T: Order + Copy, L: Layout<T>> Queue for Store<'_, T, L> {
     ghost room = { λ q. length q.cells.now };
 
     ghost items = { λ q. L.Layout.set (take q.len q.cells.now) };
+
+    ghost rises = { λ q good. L.Layout.laws.rises (take q.len q.cells.now) good };
+
+    ghost within = { λ q good. set_within T.Order.before L.Layout.good L.Layout.set L.Layout.laws q.cells.now q.len q.fits };
 
     /// One step: the cells stay as they are.
     fn clear(&mut self) {

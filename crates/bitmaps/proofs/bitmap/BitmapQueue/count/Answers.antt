@@ -1,13 +1,9 @@
 use Rattle.std.proofs.Common.{arith}
 use lib.Count.{ones-le}
-use Rattle.bitmaps.proofs.Digits.{length_levels, sorted_levels}
+use Rattle.bitmaps.specs.Levels.{length_levels}
 use Rattle.bitmaps.proofs.bitmap.BitmapQueue.count.Goals as goal
 
 pub returns : goal.returns
 returns c =
     let n = c.args.self.now.bits in
-    record {
-      answer = λ h. omega (arith, length_levels 64 0 n h, ones-le 64 n h);
-      rises = λ h. sorted_levels 64 0 n (omega arith);
-      within = λ h. omega (arith, length_levels 64 0 n h, ones-le 64 n h);
-    }
+    λ h. omega (arith, length_levels 64 0 n h, ones-le 64 n h)
