@@ -1,16 +1,16 @@
 -- Sets of levels as binary digits. Assumes nothing.
 use Rattle.std.proofs.Common.{◌≡◌, ℕ, zero, suc, ◌+◌, ◌-◌, ◌/◌, ◌%◌, ◌^◌, ◌<◌, ◌≤◌, Bool, true, false, cond, eqb, List, [], ◌∷◌, length, Some, sym, refl, ap, ◌∙◌, mod-lt, arith}
 use lib.Bits.{bit_and, bit_or, bit_xor, and_step, and_zero_r, or_disjoint, or_lt, xor_add_and}
-use lib.Count.{ones, ones_in, ones_step, ones-le, count_trailing_zeros, under}
+use lib.Count.{ones-le, count_trailing_zeros, under}
 use Rattle.bitmaps.specs.Bitmaps.{odd, digit, levels_from, levels_in}
-use Rattle.bitmaps.specs.Levels.{lower, odd_digit, ahead_levels, sorted_levels, length_levels, ones_zero}
+use Rattle.bitmaps.specs.Levels.{lower, odd_digit, ahead_levels, length_levels}
 use Rattle.queues.proofs.Laws.{insert_ahead, ahead_lacks, length_insert, first_some}
 use Rattle.queues.specs.Orders.{level_lawful, same_level}
 use Rattle.queues.specs.Items.{level_at, level_before}
-use Rattle.queues.specs.Sets.{has, insert, remove, Ahead, Sorted, first_of, rest_of}
+use Rattle.queues.specs.Sets.{has, insert, remove, first_of, rest_of}
 use Rattle.queues.specs.declared.level.Level.{Level}
 use Rattle.std.proofs.lemmas.Nat.{shr-shr, pow_below}
-use Rattle.std.proofs.lemmas.Bool.{lt-ltb, le-ltb, eqb-true, eqb-false}
+use Rattle.std.proofs.lemmas.Bool.{le-ltb}
 
 not_lower : (m n : ℕ) → n ≤ m → level_before (level_at m) (level_at n) ≡ false
 not_lower m n h = le-ltb _ _ (omega arith)

@@ -1,5 +1,5 @@
 -- The levels of the set digits ascend, and are no more than there are digits. Assumes nothing.
-use Rattle.std.proofs.Common.{◌≡◌, ℕ, zero, suc, ◌+◌, ◌/◌, ◌%◌, ◌^◌, ◌<◌, ◌≤◌, Bool, true, false, cond, List, [], ◌∷◌, length, sym, refl, ap, ◌∙◌, mod-lt, arith}
+use Rattle.std.proofs.Common.{◌≡◌, ℕ, zero, suc, ◌+◌, ◌/◌, ◌%◌, ◌^◌, ◌<◌, ◌≤◌, Bool, true, false, cond, ◌∷◌, length, sym, refl, ap, ◌∙◌, mod-lt, arith}
 use lib.Count.{ones, ones_in, ones_step, ones-le}
 use Rattle.bitmaps.specs.Bitmaps.{odd, levels_from, levels_in}
 use Rattle.queues.specs.Items.{level_at, level_before}

@@ -32,6 +32,7 @@ impl Bitmap {
         if self.bits == 0 {
             return None;
         }
+        // Stays: at most 64, so a conversion that is tested would add an arm that never runs.
         Level::new(self.bits.trailing_zeros() as u16)
     }
 
@@ -82,6 +83,7 @@ impl Queue for Bitmap {
     }
 
     fn count(&self) -> u16 {
+        // Stays: at most 64, so a conversion that is tested would add an arm that never runs.
         self.bits.count_ones() as u16
     }
 

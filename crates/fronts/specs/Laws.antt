@@ -1,5 +1,5 @@
 -- The set of a front ascends, and is no larger than its room. Assumes nothing.
-use Rattle.std.proofs.Common.{◌≡◌, ℕ, suc, ◌≤◌, Bool, List, [], ◌∷◌, length, Some, None, sym, subst, ap, arith}
+use Rattle.std.proofs.Common.{ℕ, suc, ◌≤◌, Bool, List, length, Some, None, sym, subst, arith}
 use Rattle.std.specs.Prelude.{Option}
 use Rattle.queues.specs.Sets.{Sorted}
 use Rattle.fronts.specs.Fronts.{FrontGood, front_items}

@@ -1,5 +1,5 @@
 -- A set is no larger than the memory that holds it. Assumes nothing.
-use Rattle.std.proofs.Common.{◌≡◌, ℕ, ◌≤◌, Bool, List, length, take, arith}
+use Rattle.std.proofs.Common.{ℕ, ◌≤◌, Bool, List, length, take, arith}
 use Rattle.std.proofs.lemmas.List.{length-take-le}
 use Rattle.stores.specs.Layouts.{LayoutLaws}
 

@@ -1,7 +1,6 @@
-use Rattle.std.proofs.Common.{◌≡◌, ℕ, ◌+◌, ◌^◌, ◌≤◌, Bool, true, false, Some, None, cond, sym, refl, ap, ◌∙◌, arith}
+use Rattle.std.proofs.Common.{◌≡◌, ℕ, Bool, true, false, Some, None, sym, refl, ap, ◌∙◌, arith}
 use Rattle.std.specs.Prelude.{nat_lt}
 use Rattle.std.proofs.lemmas.Bool.{cond-false, cond-true, le-ltb, or_from}
-use Rattle.queues.specs.declared.level.Level.{Level}
 use Rattle.queues.specs.declared.wake_up.WakeUp.{WakeUp}
 use Rattle.queues.specs.Items.{level_at, new_level, wake_up_at, new_wake_up}
 use Rattle.queues.specs.Orders.{same_wake_up}
