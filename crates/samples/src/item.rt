@@ -20,7 +20,7 @@ impl Sample for Level {
     }
 
     fn code(&self) -> u64 {
-        self.number as u64
+        u64::from(self.number)
     }
 }
 
@@ -33,7 +33,7 @@ impl Sample for WakeUp {
     }
 
     fn code(&self) -> u64 {
-        self.tick * 64 + self.level.code()
+        self.tick * 64 + u64::from(self.level.number)
     }
 }
 
@@ -46,6 +46,6 @@ impl Sample for Extra {
     }
 
     fn code(&self) -> u64 {
-        (4_294_967_295 - self.amount as u64) * 64 + self.level.code()
+        (4_294_967_295 - u64::from(self.amount)) * 64 + u64::from(self.level.number)
     }
 }
