@@ -1,10 +1,9 @@
 -- One task more of a set that is judged. Assumes nothing.
-use Rattle.std.proofs.Common.{◌≡◌, ℕ, ◌+◌, ◌<◌, ◌≤◌, Bool, true, false, cond, List, [], ◌∷◌, ◌++◌, length, get_or, take, drop, Some, None, sym, refl, ap, ◌∙◌, arith}
+use Rattle.std.proofs.Common.{◌≡◌, ℕ, ◌+◌, ◌<◌, ◌≤◌, Bool, true, false, cond, List, [], ◌∷◌, ◌++◌, length, get_or, take, drop, Some, None, Ok, Err, sym, refl, ap, ◌∙◌, arith}
 use Rattle.std.proofs.lemmas.List.{append-nil, append_assoc, take_more, at_drop_more, at_drop_all}
 use Rattle.planning.specs.declared.refusal.Refusal.TheVariants.{NoBound}
 use Rattle.analysis.specs.declared.task.BoundedTask.{BoundedTask}
 use Rattle.planning.specs.declared.verdict.Row.{Row}
-use Rattle.planning.specs.declared.verdict.Verdict.TheVariants.{Accepted, Refused}
 use Rattle.planning.specs.Plans.{row_of, row_passes, row_verdict, rows_from, verdict_from}
 
 cond_some : {A : Type 0} (t : Bool) (x y : A) → Some x ≡ cond t (Some y) None → (t ≡ true) × (x ≡ y)
@@ -23,7 +22,7 @@ pub record Sofar (m : ℕ) (set : List BoundedTask) (i : ℕ) (rows : List Row) 
 pub judged_none : (m : ℕ) (set : List BoundedTask) → Sofar m set 0 []
 judged_none m set = record { rows_are = refl; verdict_is = refl }
 
-pub judged_all : (m : ℕ) (set : List BoundedTask) (i : ℕ) (rows : List Row) → length set ≤ i → Sofar m set i rows → (rows ≡ rows_from m [] set) × (Accepted ≡ verdict_from m [] set)
+pub judged_all : (m : ℕ) (set : List BoundedTask) (i : ℕ) (rows : List Row) → length set ≤ i → Sofar m set i rows → (rows ≡ rows_from m [] set) × (Ok tt ≡ verdict_from m [] set)
 judged_all m set i rows l s = (
   sym (append-nil rows) ∙ ap (λ rs. rows ++ rs) (sym (at_drop_all (rows_from m (take i set)) set i l)) ∙ s.rows_are,
   sym (at_drop_all (verdict_from m (take i set)) set i l) ∙ s.verdict_is,
@@ -34,11 +33,11 @@ module _ (m : ℕ) (set : List BoundedTask) (i : ℕ) (d : BoundedTask) (rows : 
   here = get_or set i d
 
   -- the task does not pass
-  pub judged_refused : None ≡ row_verdict m (take i set) here → (rows ≡ rows_from m [] set) × (Refused (NoBound here.task.level) ≡ verdict_from m [] set)
+  pub judged_refused : None ≡ row_verdict m (take i set) here → (rows ≡ rows_from m [] set) × (Err (NoBound here.task.level) ≡ verdict_from m [] set)
   judged_refused e =
       let p = cond_none (row_passes m (take i set) here) (row_of m (take i set) here) e in
       let a : rows_from m (take i set) (drop i set) ≡ [] = at_drop_more (rows_from m (take i set)) set i d inside ∙ (rw p refl) in
-      let b : verdict_from m (take i set) (drop i set) ≡ Refused (NoBound here.task.level) = at_drop_more (verdict_from m (take i set)) set i d inside ∙ (rw p refl) in
+      let b : verdict_from m (take i set) (drop i set) ≡ Err (NoBound here.task.level) = at_drop_more (verdict_from m (take i set)) set i d inside ∙ (rw p refl) in
       (sym (append-nil rows) ∙ ap (λ rs. rows ++ rs) (sym a) ∙ s.rows_are, sym b ∙ s.verdict_is)
 
   -- the task passes

@@ -1,12 +1,10 @@
 -- The verdict on a whole set is that of the published test. Assumes nothing.
-use Rattle.std.proofs.Common.{◌≡◌, ℕ, ◌-◌, ◌≤◌, Bool, true, false, cond, List, [], ◌∷◌, ◌++◌, length, Some, None, Option, sym, refl, ap, ◌∙◌, subst, arith}
+use Rattle.std.proofs.Common.{◌≡◌, ℕ, ◌-◌, ◌≤◌, Bool, true, false, cond, List, [], ◌∷◌, ◌++◌, length, Some, None, Ok, Err, Option, Result, sym, refl, ap, ◌∙◌, subst, arith}
 use Rattle.std.proofs.lemmas.List.{append_assoc, append-nil, map-append}
 use Rattle.std.proofs.lemmas.Bool.{cond-true, cond-false}
 use Rattle.planning.specs.declared.refusal.Refusal.{Refusal}
 use Rattle.planning.specs.declared.refusal.Refusal.TheVariants.{NoBound}
 use Rattle.analysis.specs.declared.task.Task.{Task}
-use Rattle.planning.specs.declared.verdict.Verdict.{Verdict}
-use Rattle.planning.specs.declared.verdict.Verdict.TheVariants.{Accepted, Refused}
 use Rattle.planning.specs.Admission.{task_fault, or_else, first_fault, by_level}
 use Rattle.planning.specs.Plans.{at_deadline, all_at_deadline, row_passes, verdict_from, verdict_after}
 use Rattle.planning.specs.Published.{chosen, load, limit, EachSatisfies, Judged}
@@ -25,31 +23,31 @@ pub record BrokenFrom (m : ℕ) (seen ks : List Task) (level : ℕ) : Type 0 whe
   pub few : length (chosen choice (seen ++ above)) ≤ m - 1
   pub breaks : limit m task ≤ load task (seen ++ above) choice
 
-pub refused_not_accepted : (r : Refusal) → Refused r ≡ Accepted → ⊥
+pub refused_not_accepted : (r : Refusal) → ◌≡◌ {A = Result (Unit {0}) Refusal} (Err r) (Ok tt) → ⊥
 refused_not_accepted r e = let z : ◌≡◌ {A = ℕ} 0 1 = cc in omega arith
 
-pub same_refused : (a b : ℕ) → Refused (NoBound a) ≡ Refused (NoBound b) → a ≡ b
+pub same_refused : (a b : ℕ) → ◌≡◌ {A = Result (Unit {0}) Refusal} (Err (NoBound a)) (Err (NoBound b)) → a ≡ b
 same_refused a b e = cc
 
 module _ (m : ℕ) (low : 1 ≤ m) (high : m ≤ 8) where
-  abbrev verdict : List Task → List Task → Verdict
+  abbrev verdict : List Task → List Task → Result (Unit {0}) Refusal
   verdict seen ks = verdict_from m (all_at_deadline seen) (all_at_deadline ks)
 
   -- the verdict goes by the first task
-  verdict_step : (seen : List Task) (k : Task) (ks : List Task) → verdict seen (k ∷ ks) ≡ cond (row_passes m (all_at_deadline seen) (at_deadline k)) (verdict (seen ++ k ∷ []) ks) (Refused (NoBound k.level))
+  verdict_step : (seen : List Task) (k : Task) (ks : List Task) → verdict seen (k ∷ ks) ≡ cond (row_passes m (all_at_deadline seen) (at_deadline k)) (verdict (seen ++ k ∷ []) ks) (Err (NoBound k.level))
   verdict_step seen k ks =
-      ap (λ s. cond (row_passes m (all_at_deadline seen) (at_deadline k)) (verdict_from m s (all_at_deadline ks)) (Refused (NoBound k.level))) (sym (map-append at_deadline seen (k ∷ [])))
+      ap (λ s. cond (row_passes m (all_at_deadline seen) (at_deadline k)) (verdict_from m s (all_at_deadline ks)) (Err (NoBound k.level))) (sym (map-append at_deadline seen (k ∷ [])))
 
-  accepts_all : (seen ks : List Task) → Walk seen ks → verdict seen ks ≡ Accepted → EachSatisfies m seen ks
+  accepts_all : (seen ks : List Task) → Walk seen ks → verdict seen ks ≡ Ok tt → EachSatisfies m seen ks
   accepts_all seen [] w e = tt
   accepts_all seen (k ∷ ks) w e =
       split (row_passes m (all_at_deadline seen) (at_deadline k)) refl (λ h. accepts_all (seen ++ k ∷ []) ks (walk_more seen k ks w) h)
     where
-      split : (t : Bool) → row_passes m (all_at_deadline seen) (at_deadline k) ≡ t → (verdict (seen ++ k ∷ []) ks ≡ Accepted → EachSatisfies m (seen ++ k ∷ []) ks) → EachSatisfies m seen (k ∷ ks)
+      split : (t : Bool) → row_passes m (all_at_deadline seen) (at_deadline k) ≡ t → (verdict (seen ++ k ∷ []) ks ≡ Ok tt → EachSatisfies m (seen ++ k ∷ []) ks) → EachSatisfies m seen (k ∷ ks)
       split true p h = (passes_satisfies m low high seen k ks w p, h (sym (verdict_step seen k ks ∙ cond-true _ _ _ p) ∙ e))
       split false p h = absurd (refused_not_accepted _ (sym (verdict_step seen k ks ∙ cond-false _ _ _ p) ∙ e))
 
-  all_accepted : (seen ks : List Task) → Walk seen ks → EachSatisfies m seen ks → verdict seen ks ≡ Accepted
+  all_accepted : (seen ks : List Task) → Walk seen ks → EachSatisfies m seen ks → verdict seen ks ≡ Ok tt
   all_accepted seen [] w s = refl
   all_accepted seen (k ∷ ks) w s =
       verdict_step seen k ks
@@ -87,12 +85,12 @@ module _ (m : ℕ) (low : 1 ≤ m) (high : m ≤ 8) where
         breaks = subst (λ s. limit m b.task ≤ load b.task s b.choice) same b.breaks;
       }
 
-  refuses_first : (seen ks : List Task) (l : ℕ) → Walk seen ks → verdict seen ks ≡ Refused (NoBound l) → BrokenFrom m seen ks l
+  refuses_first : (seen ks : List Task) (l : ℕ) → Walk seen ks → verdict seen ks ≡ Err (NoBound l) → BrokenFrom m seen ks l
   refuses_first seen [] l w e = absurd (refused_not_accepted _ (sym e))
   refuses_first seen (k ∷ ks) l w e =
       split (row_passes m (all_at_deadline seen) (at_deadline k)) refl (λ h. refuses_first (seen ++ k ∷ []) ks l (walk_more seen k ks w) h)
     where
-      split : (t : Bool) → row_passes m (all_at_deadline seen) (at_deadline k) ≡ t → (verdict (seen ++ k ∷ []) ks ≡ Refused (NoBound l) → BrokenFrom m (seen ++ k ∷ []) ks l) → BrokenFrom m seen (k ∷ ks) l
+      split : (t : Bool) → row_passes m (all_at_deadline seen) (at_deadline k) ≡ t → (verdict (seen ++ k ∷ []) ks ≡ Err (NoBound l) → BrokenFrom m (seen ++ k ∷ []) ks l) → BrokenFrom m seen (k ∷ ks) l
       split true p h = broken_later seen k ks l w p (h (sym (verdict_step seen k ks ∙ cond-true _ _ _ p) ∙ e))
       split false p h = broken_here seen k ks l w p (same_refused _ _ (sym (verdict_step seen k ks ∙ cond-false _ _ _ p) ∙ e))
 

@@ -1,4 +1,3 @@
+pub mod Deadline
 pub mod Plans
-pub mod Test
-pub mod Verdicts
 pub mod Walks

@@ -13,7 +13,6 @@ use Rattle.rules.specs.Rules.{Rule, LawfulRule}
 use Rattle.rules.proofs.Rebounds.{rebounded, rebound_keeps}
 use Rattle.schedule.proofs.Sound.{punctual_from}
 use Rattle.planning.specs.declared.verdict.Row.{Row}
-use Rattle.planning.specs.declared.verdict.Verdict.TheVariants.{Accepted, Refused}
 use Rattle.planning.specs.Admission.{first_fault, by_level}
 use Rattle.planning.specs.Plans.{all_at_deadline, rows_after, verdict_after}
 use Rattle.plans.specs.Plans.{row_of, rows_from, verdict_on}
@@ -36,7 +35,7 @@ rows_more r m rows set i d l =
     ∙ ap (λ above. rows ++ row_of r m (take i set) (get_or set i d) ∷ rows_from r m above (drop (i + 1) set)) (sym (take_more set i d l))
     ∙ sym (append_assoc rows (row_of r m (take i set) (get_or set i d) ∷ []) (rows_from r m (take (i + 1) set) (drop (i + 1) set)))
 
-tasks_deadline : (ks : List Task) → tasks_of (all_at_deadline ks) ≡ ks
+pub tasks_deadline : (ks : List Task) → tasks_of (all_at_deadline ks) ≡ ks
 tasks_deadline [] = refl
 tasks_deadline (k ∷ ks) = ap (λ js. k ∷ js) (tasks_deadline ks)
 
@@ -89,11 +88,11 @@ module _ (r : Rule) (law : LawfulRule r) (m : ℕ) (low : 1 ≤ m) (high : m ≤
         refuses = λ l v. some_left l found.left refl v;
       }
     where
-      none_left : (is : List BoundedTask) → verdict_on is ≡ Accepted → is ≡ []
+      none_left : (is : List BoundedTask) → verdict_on is ≡ Ok tt → is ≡ []
       none_left [] v = refl
       none_left (i ∷ is) v = absurd (refused_not_accepted _ v)
 
-      some_left : (l : ℕ) (is : List BoundedTask) → found.left ≡ is → verdict_on is ≡ Refused (NoBound l) → Unbounded r m tasks table l
+      some_left : (l : ℕ) (is : List BoundedTask) → found.left ≡ is → verdict_on is ≡ Err (NoBound l) → Unbounded r m tasks table l
       some_left l [] e v = absurd (refused_not_accepted _ (sym v))
       some_left l (i ∷ is) e v = unbounded i is l e (same_refused _ _ v)
 
@@ -114,7 +113,7 @@ module _ (r : Rule) (law : LawfulRule r) (m : ℕ) (low : 1 ≤ m) (high : m ≤
 pub record Told (o : Rebound) (place level : ℕ) (set : List BoundedTask) : Type 0 where
   pub within : place ≤ length set
   pub front : take place set ≡ o.done
-  pub refused : Refused (NoBound level) ≡ verdict_on o.left
+  pub refused : ◌≡◌ {A = Result (Unit {0}) Refusal} (Err (NoBound level)) (verdict_on o.left)
 
 pub told_from : (o : Rebound) (place level : ℕ) (set : List BoundedTask) → Err (record { place = place; level = level }) ≡ rebound_answer o → set ≡ rebound_set o → Told o place level set
 told_from o place level set a s = split o.left refl
@@ -132,5 +131,5 @@ told_from o place level set a s = split o.left refl
         record {
           within = omega (arith, ap length s, length-append o.done o.left);
           front = ap (take place) s ∙ take_at o.done o.left place (sym p);
-          refused = ap (λ k. Refused (NoBound k)) l ∙ sym (ap verdict_on e);
+          refused = ap (λ k. Err (NoBound k)) l ∙ sym (ap verdict_on e);
         }

@@ -1,6 +1,7 @@
-use Rattle.std.proofs.Common.{◌≡◌, ◌-◌, [], take, ap, ◌∙◌, arith}
+use Rattle.std.proofs.Common.{◌≡◌, ◌-◌, [], take, ap, ◌∙◌, arith, rules}
 use Rattle.rules.specs.Bounds.{Rebound, rebound}
 use Rattle.plans.specs.Plans.{rows_from}
+use Rattle.plans.proofs.Deadline.{rows_told, verdict_told}
 use Rattle.plans.proofs.Plans.{Told, told_from}
 use Rattle.plans.proofs.plan.judge.Given as given
 use Rattle.plans.proofs.plan.judge.Goals as goal
@@ -24,8 +25,17 @@ returns-in_ok-rows-in-Err g c =
     let r = g.R.CountingRule.rule c.args.rule.now in
     let place = c.in-Err.field-0.place in
     let z : place - 0 ≡ place = omega arith in
+    let rows = c.in_ok-rows-in-Err.ensures ∙ ap (λ n. rows_from r c.args.cores [] (take n c.rebound.new.set)) z ∙ ap (rows_from r c.args.cores []) t.front in
     record {
-      rows = c.in_ok-rows-in-Err.ensures ∙ ap (λ n. rows_from r c.args.cores [] (take n c.rebound.new.set)) z ∙ ap (rows_from r c.args.cores []) t.front;
+      rows = rows;
       verdict = t.refused;
       set = c.in-Err.ensures.set;
+      deadline_rows = λ d. rows_told c.args.cores r c.args.set.now d _ rows;
+      deadline_verdict = λ d. verdict_told c.args.cores r c.args.set.now d _ t.refused;
     }
+
+pub returns-in_ok-rows-in-Ok-clause-deadline_rows : goal.returns-in_ok-rows-in-Ok-clause-deadline_rows
+returns-in_ok-rows-in-Ok-clause-deadline_rows g c d = rows_told c.args.cores (g.R.CountingRule.rule c.args.rule.now) c.args.set.now d _ (search rules)
+
+pub returns-in_ok-rows-in-Ok-clause-deadline_verdict : goal.returns-in_ok-rows-in-Ok-clause-deadline_verdict
+returns-in_ok-rows-in-Ok-clause-deadline_verdict g c d = verdict_told c.args.cores (g.R.CountingRule.rule c.args.rule.now) c.args.set.now d _ (search rules)
