@@ -8,6 +8,9 @@ use analysis::count::{passes, total};
 use analysis::task::BoundedTask;
 use std::alloc::{AllocError, Global};
 
+// Stays: no plainer, as these two test the bounds that a set shows, whatever they are. `plans::plan::judge` works bounds out
+// anew, so what it says of a set by the deadline rule is what is said here of the set with every task at its deadline.
+
 /// The row of a task with its bound as the window, or none where that does not pass; `above` are the more urgent tasks.
 pub fn row(task: &BoundedTask, above: &[BoundedTask], cores: u8) -> Option<Row>
     ensures { result ≡ row_verdict cores above.now task.now }

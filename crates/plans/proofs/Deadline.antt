@@ -1,5 +1,5 @@
 -- By the deadline rule the rows and the verdict of a plan are those of the check by the published test. Assumes nothing.
-use Rattle.std.proofs.Common.{◌≡◌, ℕ, ◌+◌, Bool, true, false, cond, List, [], ◌∷◌, ◌++◌, Some, None, Err, Result, sym, refl, ap, subst, ◌∙◌, arith}
+use Rattle.std.proofs.Common.{◌≡◌, ℕ, ◌+◌, Bool, true, false, List, [], ◌∷◌, ◌++◌, Some, None, Err, Result, sym, refl, ap, subst, ◌∙◌, arith}
 use Rattle.std.proofs.lemmas.List.{append_assoc, append-nil}
 use Rattle.std.proofs.lemmas.Bool.{cond-true, cond-false}
 use Rattle.planning.specs.declared.refusal.Refusal.{Refusal}
@@ -46,10 +46,10 @@ module _ (m : ℕ) where
       ∙ least_none (passes_by deadline k above m) k.deadline (k.deadline + 1) (omega arith)
 
   -- the verdict goes by the first task that does not pass at its deadline
-  pub verdict_tested : (above is : List BoundedTask) → verdict_on (rebound deadline m above is).left ≡ tested.verdict_from m above (reset is)
+  verdict_behind : (above is : List BoundedTask) → verdict_on (rebound deadline m above is).left ≡ tested.verdict_from m above (reset is)
   unfolding rebound
-  verdict_tested above [] = refl
-  verdict_tested above (i ∷ is) = split (passing above i.task) refl (verdict_tested (above ++ at_deadline i.task ∷ []) is)
+  verdict_behind above [] = refl
+  verdict_behind above (i ∷ is) = split (passing above i.task) refl (verdict_behind (above ++ at_deadline i.task ∷ []) is)
     where
       split :
           (t : Bool) →
@@ -88,29 +88,30 @@ module _ (m : ℕ) where
           ∙ sym (append-nil (rows_from deadline m [] above))
           ∙ ap (λ rs. rows_from deadline m [] above ++ rs) (sym (cond-false (passing above i.task) (row_of deadline m above (at_deadline i.task) ∷ rest) [] p))
 
-  -- what the bounds of a set tell by a rule that is the deadline rule
-  module _ (r : Rule) (set : List BoundedTask) (d : r ≡ deadline) where
-    pub rows_told : (rows : List Row) → rows ≡ rows_from r m [] (rebound r m [] set).done → rows ≡ tested.rows_from m [] (reset set)
-    rows_told rows e = e ∙ ap (λ q. rows_from q m [] (rebound q m [] set).done) d ∙ rows_behind [] set
+-- rows and verdict on a set, by a rule that is the deadline rule
+module _ (r : Rule) (m : ℕ) (set : List BoundedTask) (d : r ≡ deadline) where
+  pub rows_tested : (rows : List Row) → rows ≡ rows_from r m [] (rebound r m [] set).done → rows ≡ tested.rows_from m [] (all_at_deadline (tasks_of set))
+  rows_tested rows e = e ∙ ap (λ q. rows_from q m [] (rebound q m [] set).done) d ∙ rows_behind m [] set
 
-    pub verdict_told : (v : Result (Unit {0}) Refusal) → v ≡ verdict_on (rebound r m [] set).left → v ≡ tested.verdict_from m [] (reset set)
-    verdict_told v e = e ∙ ap (λ q. verdict_on (rebound q m [] set).left) d ∙ verdict_tested [] set
+  pub verdict_tested : (v : Result (Unit {0}) Refusal) → v ≡ verdict_on (rebound r m [] set).left → v ≡ tested.verdict_from m [] (all_at_deadline (tasks_of set))
+  verdict_tested v e = e ∙ ap (λ q. verdict_on (rebound q m [] set).left) d ∙ verdict_behind m [] set
 
--- the rows and the verdict of a plan
-module _ (n : ℕ) (tasks : List Task) where
+-- rows and verdict of a plan
+module _ (r : Rule) (n : ℕ) (tasks : List Task) (d : r ≡ deadline) where
   abbrev sorted : List BoundedTask
   sorted = all_at_deadline (by_level tasks)
 
-  pub plan_rows_tested : plan_rows deadline n tasks ≡ tested.plan_rows n tasks
-  plan_rows_tested =
-      ap (rows_after (first_fault [] tasks)) (rows_behind (core_count n) [] sorted)
-      ∙ ap (λ ks. rows_after (first_fault [] tasks) (tested.rows_from (core_count n) [] (all_at_deadline ks))) (tasks_deadline (by_level tasks))
+  same_set : all_at_deadline (tasks_of sorted) ≡ sorted
+  same_set = ap all_at_deadline (tasks_deadline (by_level tasks))
 
-  pub plan_verdict_tested : plan_verdict deadline n tasks ≡ tested.plan_verdict n tasks
+  pub plan_rows_tested : plan_rows r n tasks ≡ tested.plan_rows n tasks
+  plan_rows_tested =
+      ap (rows_after (first_fault [] tasks)) (rows_tested r (core_count n) sorted d _ refl ∙ ap (tested.rows_from (core_count n) []) same_set)
+
+  pub plan_verdict_tested : plan_verdict r n tasks ≡ tested.plan_verdict n tasks
   plan_verdict_tested =
-      ap (verdict_after (first_fault [] tasks)) (verdict_tested (core_count n) [] sorted)
-      ∙ ap (λ ks. verdict_after (first_fault [] tasks) (tested.verdict_from (core_count n) [] (all_at_deadline ks))) (tasks_deadline (by_level tasks))
+      ap (verdict_after (first_fault [] tasks)) (verdict_tested r (core_count n) sorted d _ refl ∙ ap (tested.verdict_from (core_count n) []) same_set)
 
   -- so the verdict is that of the published test
-  pub plan_judged : Judged (core_count n) tasks (plan_verdict deadline n tasks)
+  pub plan_judged : Judged (core_count n) tasks (plan_verdict r n tasks)
   plan_judged = subst (Judged (core_count n) tasks) (sym plan_verdict_tested) (verdict_judged (core_count n) (omega arith) (omega arith) tasks)

@@ -1,4 +1,4 @@
-use Rattle.std.proofs.Common.{◌≡◌, ℕ, List, IfOk, Ok, Err, Result, vec_items, sym, ap, ◌∙◌, subst, arith, rules}
+use Rattle.std.proofs.Common.{◌≡◌, ℕ, List, IfOk, Ok, Err, Result, vec_items, ◌∙◌, arith, rules}
 use Rattle.std.specs.declared.alloc.AllocError.{AllocError}
 use Rattle.analysis.specs.declared.task.Task.{Task}
 use Rattle.rules.specs.Rules.{Rule, LawfulRule, deadline}
@@ -23,15 +23,15 @@ module _ (r : Rule) (n : ℕ) (tasks : List Task) where
   promised law (Err e) rows verdict = tt
 
   published : (o : Result Plan AllocError) → IfOk o (λ p. p.verdict ≡ plan_verdict r n tasks) → IfOk o (λ p. r ≡ deadline → Judged (core_count n) tasks p.verdict)
-  published (Ok p) verdict = λ d. rw (verdict, d) (plan_judged n tasks)
+  published (Ok p) verdict = λ d. rw verdict (plan_judged r n tasks d)
   published (Err e) verdict = tt
 
   deadline_rows : (o : Result Plan AllocError) → IfOk o (λ p. vec_items p.rows ≡ plan_rows r n tasks) → IfOk o (λ p. r ≡ deadline → vec_items p.rows ≡ tested.plan_rows n tasks)
-  deadline_rows (Ok p) rows = λ d. rows ∙ ap (λ q. plan_rows q n tasks) d ∙ plan_rows_tested n tasks
+  deadline_rows (Ok p) rows = λ d. rows ∙ plan_rows_tested r n tasks d
   deadline_rows (Err e) rows = tt
 
   deadline_verdict : (o : Result Plan AllocError) → IfOk o (λ p. p.verdict ≡ plan_verdict r n tasks) → IfOk o (λ p. r ≡ deadline → p.verdict ≡ tested.plan_verdict n tasks)
-  deadline_verdict (Ok p) verdict = λ d. verdict ∙ ap (λ q. plan_verdict q n tasks) d ∙ plan_verdict_tested n tasks
+  deadline_verdict (Ok p) verdict = λ d. verdict ∙ plan_verdict_tested r n tasks d
   deadline_verdict (Err e) verdict = tt
 
 pub returns-in-Ok : goal.returns-in-Ok
