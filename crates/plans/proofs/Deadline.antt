@@ -9,7 +9,7 @@ use Rattle.planning.specs.Admission.{first_fault, by_level}
 use Rattle.planning.specs.Plans as tested
 use Rattle.planning.specs.Plans.{at_deadline, all_at_deadline, rows_after, verdict_after, core_count}
 use Rattle.planning.specs.Published.{Judged}
-use Rattle.planning.proofs.Verdicts.{verdict_judged}
+use Rattle.plans.proofs.Verdicts.{verdict_judged}
 use Rattle.analysis.specs.declared.task.Task.{Task}
 use Rattle.analysis.specs.declared.task.BoundedTask.{BoundedTask}
 use Rattle.analysis.specs.Interference.{level_of}

@@ -1,3 +1,5 @@
 pub mod Deadline
 pub mod Plans
+pub mod Test
+pub mod Verdicts
 pub mod Walks

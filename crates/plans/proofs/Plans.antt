@@ -16,7 +16,7 @@ use Rattle.planning.specs.Admission.{first_fault, by_level}
 use Rattle.planning.specs.Plans.{all_at_deadline, rows_after, verdict_after}
 use Rattle.plans.specs.Plans.{rows_from, verdict_on}
 use Rattle.plans.specs.Promises.{Promised, Accepting, Unbounded, shown}
-use Rattle.planning.proofs.Verdicts.{first_fault_kind, refused_not_accepted, same_refused}
+use Rattle.plans.proofs.Verdicts.{first_fault_kind, refused_not_accepted, same_refused}
 use Rattle.plans.proofs.Walks.{walk_from}
 
 -- the rows show the tasks they were made from

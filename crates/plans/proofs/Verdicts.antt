@@ -1,15 +1,18 @@
 -- The verdict on a whole set is that of the published test. Assumes nothing.
 use Rattle.std.proofs.Common.{◌≡◌, ℕ, ◌-◌, ◌≤◌, Bool, true, false, cond, List, [], ◌∷◌, ◌++◌, length, Some, None, Ok, Err, Option, Result, sym, refl, ap, ◌∙◌, subst, arith}
 use Rattle.std.proofs.lemmas.List.{append_assoc, append-nil, map-append}
-use Rattle.std.proofs.lemmas.Bool.{cond-true, cond-false}
+use Rattle.std.proofs.lemmas.Bool.{cond-true, cond-false, and_from, le-leb}
 use Rattle.planning.specs.declared.refusal.Refusal.{Refusal}
 use Rattle.planning.specs.declared.refusal.Refusal.TheVariants.{NoBound}
 use Rattle.analysis.specs.declared.task.Task.{Task}
 use Rattle.planning.specs.Admission.{task_fault, or_else, first_fault, by_level}
 use Rattle.planning.specs.Plans.{at_deadline, all_at_deadline, row_passes, verdict_from, verdict_after}
 use Rattle.planning.specs.Published.{chosen, load, limit, EachSatisfies, Judged}
-use Rattle.planning.proofs.Test.{passes_satisfies, satisfies_passes, reached, fails_breaks}
-use Rattle.planning.proofs.Walks.{Walk, walk_more, walk_from}
+use Rattle.plans.proofs.Test.{passes_satisfies, satisfies_passes, reached, fails_breaks}
+use Rattle.analysis.specs.Tasks.{bound_fits}
+use Rattle.analysis.proofs.Facts.{limits_from}
+use Rattle.rules.proofs.Walks.{Walk, walk_more}
+use Rattle.plans.proofs.Walks.{walk_from}
 
 -- the most urgent task of ks that breaks the test, `seen` being the tasks before them
 pub record BrokenFrom (m : ℕ) (seen ks : List Task) (level : ℕ) : Type 0 where
@@ -29,7 +32,7 @@ refused_not_accepted r e = let z : ◌≡◌ {A = ℕ} 0 1 = cc in omega arith
 pub same_refused : (a b : ℕ) → ◌≡◌ {A = Result (Unit {0}) Refusal} (Err (NoBound a)) (Err (NoBound b)) → a ≡ b
 same_refused a b e = cc
 
-module _ (m : ℕ) (low : 1 ≤ m) (high : m ≤ 8) where
+module _ (m : ℕ) where
   abbrev verdict : List Task → List Task → Result (Unit {0}) Refusal
   verdict seen ks = verdict_from m (all_at_deadline seen) (all_at_deadline ks)
 
@@ -38,25 +41,32 @@ module _ (m : ℕ) (low : 1 ≤ m) (high : m ≤ 8) where
   verdict_step seen k ks =
       ap (λ s. cond (row_passes m (all_at_deadline seen) (at_deadline k)) (verdict_from m s (all_at_deadline ks)) (Err (NoBound k.level))) (sym (map-append at_deadline seen (k ∷ [])))
 
-  accepts_all : (seen ks : List Task) → Walk seen ks → verdict seen ks ≡ Ok tt → EachSatisfies m seen ks
+  -- the walk goes on behind the first task
+  next_walk : (seen : List Task) (k : Task) (ks : List Task) → Walk m (all_at_deadline seen) (all_at_deadline (k ∷ ks)) → Walk m (all_at_deadline (seen ++ k ∷ [])) (all_at_deadline ks)
+  next_walk seen k ks w =
+      let l = limits_from k w.fit.0 in
+      let b : bound_fits (at_deadline k) ≡ true = and_from _ _ w.fit.0 (and_from _ _ (le-leb _ _ l.run) (le-leb k.deadline k.deadline (omega arith))) in
+      subst (λ s. Walk m s (all_at_deadline ks)) (sym (map-append at_deadline seen (k ∷ []))) (walk_more m (all_at_deadline seen) (at_deadline k) (at_deadline k) (all_at_deadline ks) refl b w)
+
+  accepts_all : (seen ks : List Task) → Walk m (all_at_deadline seen) (all_at_deadline ks) → verdict seen ks ≡ Ok tt → EachSatisfies m seen ks
   accepts_all seen [] w e = tt
   accepts_all seen (k ∷ ks) w e =
-      split (row_passes m (all_at_deadline seen) (at_deadline k)) refl (λ h. accepts_all (seen ++ k ∷ []) ks (walk_more seen k ks w) h)
+      split (row_passes m (all_at_deadline seen) (at_deadline k)) refl (λ h. accepts_all (seen ++ k ∷ []) ks (next_walk seen k ks w) h)
     where
       split : (t : Bool) → row_passes m (all_at_deadline seen) (at_deadline k) ≡ t → (verdict (seen ++ k ∷ []) ks ≡ Ok tt → EachSatisfies m (seen ++ k ∷ []) ks) → EachSatisfies m seen (k ∷ ks)
-      split true p h = (passes_satisfies m low high seen k ks w p, h (sym (verdict_step seen k ks ∙ cond-true _ _ _ p) ∙ e))
+      split true p h = (passes_satisfies m seen k ks w p, h (sym (verdict_step seen k ks ∙ cond-true _ _ _ p) ∙ e))
       split false p h = absurd (refused_not_accepted _ (sym (verdict_step seen k ks ∙ cond-false _ _ _ p) ∙ e))
 
-  all_accepted : (seen ks : List Task) → Walk seen ks → EachSatisfies m seen ks → verdict seen ks ≡ Ok tt
+  all_accepted : (seen ks : List Task) → Walk m (all_at_deadline seen) (all_at_deadline ks) → EachSatisfies m seen ks → verdict seen ks ≡ Ok tt
   all_accepted seen [] w s = refl
   all_accepted seen (k ∷ ks) w s =
       verdict_step seen k ks
-      ∙ cond-true _ _ _ (satisfies_passes m low high seen k ks w s.0)
-      ∙ all_accepted (seen ++ k ∷ []) ks (walk_more seen k ks w) s.1
+      ∙ cond-true _ _ _ (satisfies_passes m seen k ks w s.0)
+      ∙ all_accepted (seen ++ k ∷ []) ks (next_walk seen k ks w) s.1
 
-  broken_here : (seen : List Task) (k : Task) (ks : List Task) (l : ℕ) → Walk seen (k ∷ ks) → row_passes m (all_at_deadline seen) (at_deadline k) ≡ false → k.level ≡ l → BrokenFrom m seen (k ∷ ks) l
+  broken_here : (seen : List Task) (k : Task) (ks : List Task) (l : ℕ) → Walk m (all_at_deadline seen) (all_at_deadline (k ∷ ks)) → row_passes m (all_at_deadline seen) (at_deadline k) ≡ false → k.level ≡ l → BrokenFrom m seen (k ∷ ks) l
   broken_here seen k ks l w p e =
-      let r = reached m low high seen k ks w in
+      let r = reached m seen k ks w in
       let same = sym (append-nil seen) in
       record {
         above = [];
@@ -67,10 +77,10 @@ module _ (m : ℕ) (low : 1 ≤ m) (high : m ≤ 8) where
         above_satisfy = tt;
         choice = r.choice;
         few = subst (λ s. length (chosen r.choice s) ≤ m - 1) same r.few;
-        breaks = subst (λ s. limit m k ≤ load k s r.choice) same (fails_breaks m low high seen k ks w p);
+        breaks = subst (λ s. limit m k ≤ load k s r.choice) same (fails_breaks m seen k ks w p);
       }
 
-  broken_later : (seen : List Task) (k : Task) (ks : List Task) (l : ℕ) → Walk seen (k ∷ ks) → row_passes m (all_at_deadline seen) (at_deadline k) ≡ true → BrokenFrom m (seen ++ k ∷ []) ks l → BrokenFrom m seen (k ∷ ks) l
+  broken_later : (seen : List Task) (k : Task) (ks : List Task) (l : ℕ) → Walk m (all_at_deadline seen) (all_at_deadline (k ∷ ks)) → row_passes m (all_at_deadline seen) (at_deadline k) ≡ true → BrokenFrom m (seen ++ k ∷ []) ks l → BrokenFrom m seen (k ∷ ks) l
   broken_later seen k ks l w p b =
       let same = append_assoc seen (k ∷ []) b.above in
       record {
@@ -79,25 +89,25 @@ module _ (m : ℕ) (low : 1 ≤ m) (high : m ≤ 8) where
         below = b.below;
         split = ap (λ s. k ∷ s) b.split;
         at_level = b.at_level;
-        above_satisfy = (passes_satisfies m low high seen k ks w p, b.above_satisfy);
+        above_satisfy = (passes_satisfies m seen k ks w p, b.above_satisfy);
         choice = b.choice;
         few = subst (λ s. length (chosen b.choice s) ≤ m - 1) same b.few;
         breaks = subst (λ s. limit m b.task ≤ load b.task s b.choice) same b.breaks;
       }
 
-  refuses_first : (seen ks : List Task) (l : ℕ) → Walk seen ks → verdict seen ks ≡ Err (NoBound l) → BrokenFrom m seen ks l
+  refuses_first : (seen ks : List Task) (l : ℕ) → Walk m (all_at_deadline seen) (all_at_deadline ks) → verdict seen ks ≡ Err (NoBound l) → BrokenFrom m seen ks l
   refuses_first seen [] l w e = absurd (refused_not_accepted _ (sym e))
   refuses_first seen (k ∷ ks) l w e =
-      split (row_passes m (all_at_deadline seen) (at_deadline k)) refl (λ h. refuses_first (seen ++ k ∷ []) ks l (walk_more seen k ks w) h)
+      split (row_passes m (all_at_deadline seen) (at_deadline k)) refl (λ h. refuses_first (seen ++ k ∷ []) ks l (next_walk seen k ks w) h)
     where
       split : (t : Bool) → row_passes m (all_at_deadline seen) (at_deadline k) ≡ t → (verdict (seen ++ k ∷ []) ks ≡ Err (NoBound l) → BrokenFrom m (seen ++ k ∷ []) ks l) → BrokenFrom m seen (k ∷ ks) l
       split true p h = broken_later seen k ks l w p (h (sym (verdict_step seen k ks ∙ cond-true _ _ _ p) ∙ e))
       split false p h = broken_here seen k ks l w p (same_refused _ _ (sym (verdict_step seen k ks ∙ cond-false _ _ _ p) ∙ e))
 
   -- a set without fault
-  judged_sorted : (tasks : List Task) → first_fault [] tasks ≡ None → Judged m tasks (verdict [] (by_level tasks))
-  judged_sorted tasks f =
-      let w = walk_from tasks f in
+  judged_sorted : 1 ≤ m → m ≤ 8 → (tasks : List Task) → first_fault [] tasks ≡ None → Judged m tasks (verdict [] (by_level tasks))
+  judged_sorted low high tasks f =
+      let w = walk_from m low high tasks f in
       record {
         accepts = λ e. (f, accepts_all [] (by_level tasks) w e);
         accepted = λ s. all_accepted [] (by_level tasks) w s.1;
