@@ -15,9 +15,9 @@ use Rattle.queues.specs.declared.extra.Extra.{Extra}
 use Rattle.analysis.specs.declared.task.Task.{Task}
 use Rattle.analysis.specs.declared.task.BoundedTask.{BoundedTask}
 use Rattle.analysis.specs.Counting.{Countable, extras, amounts}
-use Rattle.analysis.specs.Interference.{extra, taken, distinct, level_of, sum_largest}
+use Rattle.analysis.specs.Interference.{extra, lawful, taken, distinct, level_of, sum_largest}
 use Rattle.analysis.specs.Work.{plain}
-use Rattle.analysis.proofs.Facts.{Above, LawfulCase}
+use Rattle.analysis.proofs.Facts.{Above, lawful_case}
 use Rattle.analysis.proofs.Largest.{Falls, best, sum_sorted, largest_best}
 
 module _ {X : Type 0} (level : X → ℕ) where
@@ -111,12 +111,12 @@ module _ (k : Task) (x : ℕ) where
       ∙ sym (largest_best n (map (extra k x) others))
 
   -- in a lawful case all can be counted
-  pub countable_from : (others : List BoundedTask) (m : ℕ) → LawfulCase k others m x → Countable k x others
-  countable_from others m c =
-      let l = c.limits in
+  pub countable_from : (others : List BoundedTask) (m : ℕ) → lawful k others m x ≡ true → Countable k x others
+  countable_from others m e =
+      let c = lawful_case k others m x e in
       record {
         few = c.few;
-        small = let a = c.low in let b = c.high in omega arith;
+        small = let l = c.limits in let a = c.low in let b = c.high in omega arith;
         levels = All-weaker (Above k) (λ i. level_of i ≤ 63) (λ i a. a.limits.level) others c.each;
         apart = c.apart;
       }

@@ -7,16 +7,13 @@ use Rattle.analysis.specs.Counting.{Countable, amounts, extras}
 use Rattle.analysis.specs.Interference.{lawful, interference}
 use Rattle.analysis.proofs.Counted.{countable_from, plain_fits, extras_fit, largest_read}
 use Rattle.analysis.proofs.Interfering.{interference_laws}
-use Rattle.analysis.proofs.Facts.{LawfulCase, lawful_case}
+use Rattle.analysis.proofs.Facts.{lawful_case}
 use Rattle.analysis.proofs.case.Case.total.Goals as goal
 use Rattle.analysis.proofs.case.Case.total.Goals.{Else-not-is_lawful}
 
 -- past the test the case is lawful
-lawful_here : (c : Else-not-is_lawful) → LawfulCase c.args.self.now.task.now c.args.self.now.above.now c.args.self.now.cores c.args.window
-lawful_here c = lawful_case _ _ _ _ (sym c.if-not-is_lawful.ensures)
-
 countable : (c : Else-not-is_lawful) → Countable c.args.self.now.task.now c.args.window c.args.self.now.above.now
-countable c = countable_from _ _ _ c.args.self.now.cores (lawful_here c)
+countable c = countable_from _ _ _ _ (sym c.if-not-is_lawful.ensures)
 
 pub returns-then-not-is_lawful-clause-laws : goal.returns-then-not-is_lawful-clause-laws
 returns-then-not-is_lawful-clause-laws c = interference_laws _ _ _ _
@@ -28,7 +25,7 @@ pub count_plain-plain-requires-clause-room : goal.count_plain-plain-requires-cla
 count_plain-plain-requires-clause-room c = omega (arith, (countable (goal.at.count_plain-plain-requires-clause-room c).Else-not-is_lawful).few, c.new-queue.ensures.room)
 
 pub overflow_sub-self : goal.overflow_sub-self
-overflow_sub-self c = (lawful_here (goal.at.overflow_sub-self c).Else-not-is_lawful).some_core
+overflow_sub-self c = (lawful_case _ _ _ _ (sym c.if-not-is_lawful.ensures)).some_core
 
 pub take_largest-requires-clause-fits : goal.take_largest-requires-clause-fits
 take_largest-requires-clause-fits c =
