@@ -4,23 +4,21 @@ ghost use Rattle.planning.specs.Plans.{row_verdict, rows_from, verdict_from};
 
 use crate::refusal::Refusal;
 use crate::verdict::{Plan, Row};
-use analysis::count::{passes, total};
+use analysis::case::Case;
 use analysis::task::BoundedTask;
 use std::alloc::{AllocError, Global};
 
 // Stays: no plainer, as these two test the bounds that a set shows, whatever they are. `plans::plan::judge` works bounds out
 // anew, so what it says of a set by the deadline rule is what is said here of the set with every task at its deadline.
 
-/// The row of a task with its bound as the window, or none where that does not pass; `above` are the more urgent tasks.
-pub fn row(task: &BoundedTask, above: &[BoundedTask], cores: u8) -> Option<Row>
-    ensures { result ≡ row_verdict cores above.now task.now }
+/// The row of a task with this bound as the window, or none where that does not pass.
+pub fn row(case: &Case, bound: u16) -> Option<Row>
+    ensures { result ≡ row_verdict case.now.cores case.now.above.now (record { task = case.now.task.now; bound = bound }) }
 {
-    let total = total(&task.task, above, cores, task.bound);
-    passes(&task.task, cores, task.bound, total).then_some(Row {
-        task: task.task,
-        total,
-        bound: task.bound,
-    })
+    let task = *case.task;
+    let total = case.total(bound);
+    case.passes(bound, total)
+        .then_some(Row { task, total, bound })
 }
 
 /// The rows of a sorted set and the verdict on it: the first task that does not pass ends it.
@@ -30,7 +28,12 @@ pub fn judge(heap: Global, cores: u8, set: &[BoundedTask]) -> Result<Plan, Alloc
 {
     let mut rows = Vec::new(heap);
     for (i, task) in set.iter().enumerate() {
-        let Some(row) = row(task, &set[0..i], cores) else {
+        let case = Case {
+            task: &task.task,
+            above: &set[..i],
+            cores,
+        };
+        let Some(row) = row(&case, task.bound) else {
             let verdict = Err(Refusal::NoBound(task.task.level));
             return Ok(Plan { rows, verdict });
         };

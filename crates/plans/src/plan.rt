@@ -8,6 +8,7 @@ ghost use Rattle.planning.specs.Published.{Judged};
 ghost use Rattle.rules.specs.Bounds.{rebound, rebound_set, tasks_of};
 ghost use Rattle.rules.specs.Rules.{deadline};
 
+use analysis::case::Case;
 use analysis::task::{BoundedTask, Task};
 use planning::admission::{Stop, admit};
 use planning::refusal::Refusal;
@@ -28,7 +29,12 @@ pub fn rows<R: CountingRule>(
 {
     let mut rows = Vec::new(heap);
     for (i, task) in set.iter().enumerate() {
-        let total = rule.total(&task.task, &set[0..i], cores, task.bound);
+        let case = Case {
+            task: &task.task,
+            above: &set[..i],
+            cores,
+        };
+        let total = rule.total(&case, task.bound);
         rows.push(Row {
             task: task.task,
             total,
@@ -59,7 +65,7 @@ pub fn judge<R: CountingRule>(
             Ok(Plan { rows, verdict })
         }
         Err(NoBound { place, level }) => {
-            let rows = rows(heap, rule, cores, &set[0..place])?;
+            let rows = rows(heap, rule, cores, &set[..place])?;
             let verdict = Err(Refusal::NoBound(level));
             Ok(Plan { rows, verdict })
         }

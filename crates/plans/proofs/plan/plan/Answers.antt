@@ -10,11 +10,7 @@ use Rattle.plans.specs.Plans.{plan_rows, plan_verdict}
 use Rattle.plans.specs.Promises.{Promised}
 use Rattle.plans.proofs.Deadline.{plan_rows_tested, plan_verdict_tested, plan_judged}
 use Rattle.plans.proofs.Plans.{plan_promised}
-use Rattle.plans.proofs.plan.plan.Given as given
 use Rattle.plans.proofs.plan.plan.Goals as goal
-
-lawful : (g : given.Over) (rule : _) → LawfulRule (g.R.CountingRule.rule rule)
-lawful g rule = record { starts = g.met.R.CountingRule.starts rule; covers = g.met.R.CountingRule.covers rule }
 
 -- from the rows and the verdict follows what else a plan promises
 module _ (r : Rule) (n : ℕ) (tasks : List Task) where
@@ -44,7 +40,7 @@ returns-in-Ok g c =
     record {
       rows = told;
       verdict = verdict;
-      promised = promised r n tasks (lawful g c.args.rule.now) c.judge.result told verdict;
+      promised = promised r n tasks (g.met.R.CountingRule.laws c.args.rule.now) c.judge.result told verdict;
       published = published r n tasks c.judge.result verdict;
       deadline_rows = deadline_rows r n tasks c.judge.result told;
       deadline_verdict = deadline_verdict r n tasks c.judge.result verdict;
@@ -52,7 +48,7 @@ returns-in-Ok g c =
 
 pub returns-in-Err-Refused-clause-promised : goal.returns-in-Err-Refused-clause-promised
 returns-in-Err-Refused-clause-promised g c =
-    promised _ c.args.cores c.args.tasks.now (lawful g c.args.rule.now) (Ok (record { rows = c.new-rows.result; verdict = Err c.in-Err-Refused.refusal })) (search rules) (search rules)
+    promised _ c.args.cores c.args.tasks.now (g.met.R.CountingRule.laws c.args.rule.now) (Ok (record { rows = c.new-rows.result; verdict = Err c.in-Err-Refused.refusal })) (search rules) (search rules)
 
 pub returns-in-Err-Refused-clause-published : goal.returns-in-Err-Refused-clause-published
 returns-in-Err-Refused-clause-published g c =
