@@ -1,8 +1,9 @@
 -- One task more in the count. Assumes nothing.
-use Rattle.std.proofs.Common.{◌≡◌, ℕ, zero, suc, ◌+◌, ◌^◌, ◌<◌, ◌≤◌, Bool, true, false, cond, not, eqb, List, [], ◌∷◌, map, length, get_or, take, drop, sum_by, sum, sym, refl, ap, ◌∙◌, arith}
-use Rattle.std.proofs.ByRecursion.{All-get_or, All-take, All-weaker, sum_by_le}
-use Rattle.std.proofs.lemmas.List.{map_more, length-take-le, length-map, length-drop, drop_more, take_all, take-map}
-use Rattle.std.proofs.lemmas.List.Sums.{sum_by_more, sum_by-take-le, sum_by-cons, sum-map}
+use Rattle.std.proofs.Common.{◌≡◌, ℕ, zero, suc, ◌+◌, ◌<◌, ◌≤◌, Bool, true, false, cond, not, eqb, List, [], ◌∷◌, map, length, get_or, take, sum_by, sum, sym, refl, ap, ◌∙◌, arith}
+use Rattle.std.proofs.ByRecursion.{All-get_or, All-take, All-weaker}
+use Rattle.std.proofs.lemmas.List.{map_more, length-take-le, length-map, take-map}
+use Rattle.std.proofs.lemmas.List.Elements.{All-map}
+use Rattle.std.proofs.lemmas.List.Sums.{sum_by-le, sum_by-cons, sum-map}
 use Rattle.std.proofs.lemmas.Bool.{and_parts, or_parts, or_from, not-true, cond-false, ne_eqb}
 use Rattle.std.proofs.lemmas.Bool.Decides.{nat_tests}
 use Rattle.std.specs.List.{AllByRecursion}
@@ -14,9 +15,9 @@ use Rattle.queues.specs.declared.extra.Extra.{Extra}
 use Rattle.analysis.specs.declared.task.Task.{Task}
 use Rattle.analysis.specs.declared.task.BoundedTask.{BoundedTask}
 use Rattle.analysis.specs.Counting.{Countable, extras, amounts}
-use Rattle.analysis.specs.Interference.{extra, taken, distinct, level_of, sum_largest}
-use Rattle.analysis.specs.Work.{plain, cap}
-use Rattle.analysis.proofs.Facts.{Above, Case}
+use Rattle.analysis.specs.Interference.{extra, lawful, taken, distinct, level_of, sum_largest}
+use Rattle.analysis.specs.Work.{plain}
+use Rattle.analysis.proofs.Facts.{Above, lawful_case}
 use Rattle.analysis.proofs.Largest.{Falls, best, sum_sorted, largest_best}
 
 module _ {X : Type 0} (level : X → ℕ) where
@@ -36,13 +37,12 @@ module _ {X : Type 0} (level : X → ℕ) where
       or_from _ _ r (distinct_at xs i d p.1 (omega arith))
 
 module _ (k : Task) (x : ℕ) where
-  plain_small : (others : List BoundedTask) → cap k x ≤ 60000 → AllByRecursion (λ i. plain k x i ≤ 60000) others
-  plain_small [] h = tt
-  plain_small (i ∷ is) h = (omega arith, plain_small is h)
-
   -- no sum of plain amounts is too large
   pub plain_fits : (others : List BoundedTask) → Countable k x others → sum_by (plain k x) others ≤ 1860000
-  plain_fits others c = let f = c.few in let h = sum_by_le (plain k x) 60000 others (plain_small others c.small) in omega arith
+  plain_fits others c =
+      let f = c.few in
+      let s = c.small in
+      let h = sum_by-le (plain k x) 60000 others (λ i d l. omega arith) in omega arith
 
   -- an extra at another level is not among the extras
   lacks : (a l : ℕ) (is : List BoundedTask) → l ≤ 63 → AllByRecursion (λ i. level_of i ≤ 63) is → taken level_of l is ≡ false → has extra_before (extra_at a l) (extras k x is) ≡ false
@@ -55,17 +55,6 @@ module _ (k : Task) (x : ℕ) where
       let z : same extra_before (extra_at a l) (extra_at (extra k x i) (level_of i)) ≡ false = grind (arith, nat_tests) in
       grind arith
 
-  all_front : (n : ℕ) (is : List BoundedTask) → AllByRecursion (λ i. level_of i ≤ 63) is → AllByRecursion (λ i. level_of i ≤ 63) (take n is)
-  all_front n is u = All-take (λ i. level_of i ≤ 63) n is u
-
-  -- the plain amounts so far and one more
-  pub plain_more : (others : List BoundedTask) (i : ℕ) (d : BoundedTask) → Countable k x others → i < length others → (sum_by (plain k x) (take i others) + plain k x (get_or others i d) ≡ sum_by (plain k x) (take (i + 1) others)) × (sum_by (plain k x) (take i others) + plain k x (get_or others i d) < 2 ^ 32)
-  plain_more others i d c h =
-      let a = sum_by_more (plain k x) others i d h in
-      let b = sum_by-take-le (plain k x) others (i + 1) in
-      let e = plain_fits others c in
-      (sym a, omega arith)
-
   -- the extras so far and one more
   pub extras_more : (others : List BoundedTask) (i room : ℕ) (d : BoundedTask) → Countable k x others → i < length others → length others ≤ room → put_set extra_before room (extra_at (extra k x (get_or others i d)) (level_of (get_or others i d))) (sort extra_before (extras k x (take i others))) ≡ sort extra_before (extras k x (take (i + 1) others))
   extras_more others i room d c h r =
@@ -73,7 +62,7 @@ module _ (k : Task) (x : ℕ) where
       let e = extra_at (extra k x t) (level_of t) in
       let s = sort extra_before (extras k x (take i others)) in
       let l = All-get_or (λ i. level_of i ≤ 63) others i d h c.levels in
-      let q = lacks (extra k x t) (level_of t) (take i others) l (all_front i others c.levels) (distinct_at level_of others i d c.apart h) in
+      let q = lacks (extra k x t) (level_of t) (take i others) l (All-take (λ i. level_of i ≤ 63) i others c.levels) (distinct_at level_of others i d c.apart h) in
       let p : has extra_before e s ≡ false = has_sort extra_before e (extras k x (take i others)) ∙ q in
       let n : length s ≡ i = length_sort extra_before (extras k x (take i others)) ∙ length-map (take i others) (λ i. extra_at (extra k x i) (level_of i)) ∙ length-take-le i others (omega arith) in
       let f : eqb (length s) room ≡ false = ne_eqb (length s) room (λ z. omega arith) in
@@ -81,22 +70,6 @@ module _ (k : Task) (x : ℕ) where
       ∙ cond-false (eqb (length s) room) s (insert extra_before e s) f
       ∙ sym (sort_push extra_before extra_lawful (extras k x (take i others)) e)
       ∙ ap (sort extra_before) (sym (map_more (λ i. extra_at (extra k x i) (level_of i)) others i d h))
-
--- what is read off a sorted queue
-module _ (es : List Extra) where
-  pub amounts_more : (i : ℕ) (e : Extra) (rest : List Extra) → drop i es ≡ e ∷ rest → (amounts (take i es) + e.amount ≡ amounts (take (i + 1) es)) × (drop (i + 1) es ≡ rest)
-  amounts_more i e rest q =
-      let h : i < length es = let n = length-drop i es ∙ refl in let m = ap length q in omega arith in
-      let a = sum_by_more (λ e. e.amount) es i e h in
-      let d : e ∷ rest ≡ get_or es i e ∷ drop (i + 1) es = sym q ∙ drop_more es i e h in
-      let f : e ≡ get_or es i e = cc in
-      let g : rest ≡ drop (i + 1) es = cc in
-      (ap (λ y. amounts (take i es) + y.amount) f ∙ sym a, sym g)
-
-  pub amounts_all : (i n : ℕ) → drop i es ≡ [] → i ≤ n → amounts (take i es) ≡ amounts (take n es)
-  amounts_all i n q l =
-      let h : length es ≤ i = let k = length-drop i es in let m = ap length q in omega arith in
-      ap amounts (take_all i es h ∙ sym (take_all n es (omega arith)))
 
 amounts_insert : (e : Extra) (s : List Extra) → amounts (insert extra_before e s) ≡ e.amount + amounts s
 amounts_insert e [] = omega arith
@@ -114,16 +87,14 @@ amount_falls : Falls extra_before (λ e. e.amount)
 amount_falls = record { before = λ x y p. grind (arith, nat_tests); after = λ x y p. grind (arith, nat_tests) }
 
 module _ (k : Task) (x : ℕ) where
-  extras_small : (others : List BoundedTask) → cap k x ≤ 60000 → AllByRecursion (λ e. e.amount ≤ 60000) (extras k x others)
-  extras_small [] h = tt
-  extras_small (i ∷ is) h = (omega arith, extras_small is h)
-
   -- no sum of extras is too large
   pub extras_fit : (others : List BoundedTask) → Countable k x others → amounts (sort extra_before (extras k x others)) ≤ 1860000
   extras_fit others c =
       let f = c.few in
-      let h = sum_by_le (λ e. e.amount) 60000 (extras k x others) (extras_small others c.small) in
-      omega (arith, amounts_sort (extras k x others), length-map others (λ i. extra_at (extra k x i) (level_of i)))
+      let s = c.small in
+      let with_level = λ (i : BoundedTask). extra_at (extra k x i) (level_of i) in
+      let h = sum_by-le (λ e. e.amount) 60000 (extras k x others) (All-map (λ e. e.amount ≤ 60000) with_level others (λ i d l. omega arith)) in
+      omega (arith, amounts_sort (extras k x others), length-map others with_level)
 
   amounts_of : (others : List BoundedTask) → map (λ e. e.amount) (extras k x others) ≡ map (extra k x) others
   amounts_of [] = refl
@@ -140,12 +111,12 @@ module _ (k : Task) (x : ℕ) where
       ∙ sym (largest_best n (map (extra k x) others))
 
   -- in a lawful case all can be counted
-  pub countable_from : (others : List BoundedTask) (m : ℕ) → Case k others m x → Countable k x others
-  countable_from others m c =
-      let l = c.limits in
+  pub countable_from : (others : List BoundedTask) (m : ℕ) → lawful k others m x ≡ true → Countable k x others
+  countable_from others m e =
+      let c = lawful_case k others m x e in
       record {
         few = c.few;
-        small = let a = c.low in let b = c.high in omega arith;
+        small = let l = c.limits in let a = c.low in let b = c.high in omega arith;
         levels = All-weaker (Above k) (λ i. level_of i ≤ 63) (λ i a. a.limits.level) others c.each;
         apart = c.apart;
       }

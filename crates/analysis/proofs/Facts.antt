@@ -1,10 +1,11 @@
 -- What the tests of limits tell. Assumes nothing.
-use Rattle.std.proofs.Common.{◌≡◌, ℕ, ◌<◌, ◌≤◌, true, ◌&&◌, leb, List, [], ◌∷◌, length}
+use Rattle.std.proofs.Common.{◌≡◌, ℕ, ◌<◌, ◌≤◌, true, ◌&&◌, leb, List, [], ◌∷◌, length, get_or}
 use Rattle.std.proofs.lemmas.Bool.{and_parts, leb-true, ltb-true}
 use Rattle.std.specs.List.{AllByRecursion}
-use Rattle.std.proofs.ByRecursion.{All-weaker}
+use Rattle.std.proofs.ByRecursion.{All-get_or, All-weaker}
 use Rattle.analysis.specs.declared.task.Task.{Task}
 use Rattle.analysis.specs.declared.task.BoundedTask.{BoundedTask}
+use Rattle.analysis.proofs.Blank.{no_bounded}
 use Rattle.analysis.specs.Tasks.{level_fits, timing_fits, within_limits, bound_fits}
 use Rattle.analysis.specs.Interference.{above, all_above, distinct, level_of, lawful, numbers_fit}
 
@@ -23,7 +24,7 @@ pub record Above (k : Task) (i : BoundedTask) : Type 0 where
   pub high : i.bound ≤ i.task.deadline
   pub urgent : level_of i < k.level
 
-pub record Case (k : Task) (others : List BoundedTask) (m x : ℕ) : Type 0 where
+pub record LawfulCase (k : Task) (others : List BoundedTask) (m x : ℕ) : Type 0 where
   pub some_core : 1 ≤ m
   pub few_cores : m ≤ 8
   pub few : length others ≤ 31
@@ -66,9 +67,9 @@ each_from k (i ∷ is) e = let p = and_parts (above k i) (all_above k is) e in (
 pub levels_small : (k : Task) (is : List BoundedTask) → all_above k is ≡ true → AllByRecursion (λ i. level_of i ≤ 63) is
 levels_small k is e = All-weaker (Above k) (λ i. level_of i ≤ 63) (λ i a. a.limits.level) is (each_from k is e)
 
-pub case_from : (k : Task) (others : List BoundedTask) (m x : ℕ) → lawful k others m x ≡ true → Case k others m x
+pub lawful_case : (k : Task) (others : List BoundedTask) (m x : ℕ) → lawful k others m x ≡ true → LawfulCase k others m x
 unfolding lawful
-case_from k others m x e =
+lawful_case k others m x e =
     let p = and_parts (numbers_fit k (length others) m x) _ e in
     let q = and_parts (all_above k others) _ p.1 in
     let a = and_parts (leb 1 m && leb m 8) _ p.0 in
@@ -86,3 +87,6 @@ case_from k others m x e =
       each = each_from k others q.0;
       apart = q.1;
     }
+
+pub level_at : (is : List BoundedTask) (i : ℕ) → i < length is → AllByRecursion (λ i. level_of i ≤ 63) is → level_of (get_or is i no_bounded) ≤ 63
+level_at is i l a = All-get_or (λ i. level_of i ≤ 63) is i no_bounded l a

@@ -34,11 +34,7 @@ module _ {X : Type 0} (level : X → ℕ) where
   fresh_none n (i ∷ is) = let p = unmarked n (level i) in let q = fresh_none n is in grind arith
 
   module _ (whole : Bool) (seen : List Bool) (is : List X) (i : ℕ) (d : X) (inside : i < length is) (before : whole ≡ (fresh seen (drop i is) && distinct level (drop i is))) where
-    -- a task whose level is marked
-    pub marked_found : get_or seen (level (get_or is i d)) false ≡ true → false ≡ whole
-    marked_found m = let e = rw (drop_more is i d inside) at before in grind arith
-
-    -- one whose level is not, and is marked then
+    -- a task whose level is not marked, and is marked then
     pub marked_more : level (get_or is i d) < length seen → get_or seen (level (get_or is i d)) false ≡ false → whole ≡ (fresh (set seen (level (get_or is i d)) true) (drop (i + 1) is) && distinct level (drop (i + 1) is))
     marked_more h m =
         let e = rw (drop_more is i d inside) at before in

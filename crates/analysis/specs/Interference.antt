@@ -1,5 +1,6 @@
 -- How much more urgent tasks can keep a job waiting, and when a window passes.
-use Rattle.std.specs.Prelude.{ℕ, ◌+◌, ◌-◌, ◌/◌, Bool, true, false, cond, not, ◌&&◌, ◌||◌, List, [], ◌∷◌, map, length, take, sum_by, sum, ◌==◌, nat_le, nat_lt}
+use Rattle.std.specs.Prelude.{ℕ, ◌+◌, ◌-◌, ◌/◌, Bool, true, cond, not, ◌&&◌, List, [], ◌∷◌, map, length, take, sum_by, sum, ◌==◌, nat_le, nat_lt}
+use Rattle.std.specs.List.{list_any, list_all}
 use Rattle.queues.specs.Sets.{sort}
 use Rattle.analysis.specs.declared.task.Task.{Task}
 use Rattle.analysis.specs.declared.task.BoundedTask.{BoundedTask}
@@ -31,8 +32,7 @@ level_of i = i.task.level
 module _ {X : Type 0} (level : X → ℕ) where
   -- a task of the list has level l
   abbrev pub taken : ℕ → List X → Bool
-  taken l [] = false
-  taken l (i ∷ is) = level i == l || taken l is
+  taken l is = list_any (λ i. level i == l) is
 
   -- no two share a level
   abbrev pub distinct : List X → Bool
@@ -44,8 +44,7 @@ abbrev pub above : Task → BoundedTask → Bool
 above k i = bound_fits i && nat_lt (level_of i) k.level
 
 abbrev pub all_above : Task → List BoundedTask → Bool
-all_above k [] = true
-all_above k (i ∷ is) = above k i && all_above k is
+all_above k is = list_all (above k) is
 
 -- 1 to 8 cores, at most 31 others, k within its limits, C ≤ x ≤ D
 abbrev pub numbers_fit : Task → ℕ → ℕ → ℕ → Bool

@@ -7,9 +7,7 @@ ghost use Rattle.analysis.specs.Interference.{total, passes};
 ghost use Rattle.analysis.specs.Laws.{InterferenceLaws};
 ghost use Rattle.analysis.specs.Work.{plain};
 
-use crate::lawful::is_lawful;
-use crate::task::{BoundedTask, Task};
-use crate::work;
+use crate::case::Case;
 use heaps::heap::Heap;
 use queues::extra::Extra;
 use queues::level::Level;
@@ -26,31 +24,6 @@ fn put_extra<Q: Queue<Item = Extra>>(queue: &mut Q, amount: u32, level: u16)
     }
 }
 
-// Sums the plain amounts of the others, and puts their extras into the queue, which is empty before.
-fn count_plain<Q: Queue<Item = Extra>>(
-    queue: &mut Q,
-    task: &Task,
-    window: u16,
-    others: &[BoundedTask],
-) -> u32
-    requires fits { Countable task.now window others.now }
-    requires good { Q.Queue.good queue.old }
-    requires room { length others.now ≤ Q.Queue.room queue.old }
-    requires empty { Q.Queue.items queue.old ≡ [] }
-    ensures sum { result ≡ sum_by (plain task.now window) others.now }
-    ensures good { Q.Queue.good queue.new }
-    ensures items { Q.Queue.items queue.new ≡ sort extra_before (extras task.now window others.now) }
-{
-    let mut sum = 0;
-    for other in others {
-        let plain = work::plain(task, window, other);
-        let carried = work::carried(task, window, other);
-        sum += plain;
-        put_extra(queue, carried.saturating_sub(plain), other.task.level);
-    }
-    sum
-}
-
 // Takes so many of the largest extras off the queue, all where there are fewer, and adds them up.
 fn take_largest<Q: Queue<Item = Extra>>(queue: &mut Q, most: u8) -> u32
     requires good { Q.Queue.good queue.old }
@@ -58,40 +31,66 @@ fn take_largest<Q: Queue<Item = Extra>>(queue: &mut Q, most: u8) -> u32
     ensures { result ≡ amounts (take most (Q.Queue.items queue.old)) }
 {
     let mut sum = 0;
-    for done in 0..most {
-        match queue.take() {
-            Some(extra) => sum += extra.amount,
-            None => return sum,
-        }
+    for _ in 0..most {
+        let Some(extra) = queue.take() else {
+            return sum;
+        };
+        sum += extra.amount;
     }
     sum
 }
 
-/// The rule's total for a window of the task: the interference of the more urgent tasks, or 4,294,967,295 where the
-/// arguments are not lawful.
-pub fn total(task: &Task, others: &[BoundedTask], cores: u8, window: u16) -> u32
-    ensures equation { result ≡ total task.now others.now cores window }
-    ensures laws { InterferenceLaws task.now others.now cores window }
-{
-    if !is_lawful(task, others, cores, window) {
-        return u32::MAX;
+impl Case<'_> {
+    // Sums the plain amounts of the tasks above, and puts their extras into the queue, which is empty before.
+    fn count_plain<Q: Queue<Item = Extra>>(&self, queue: &mut Q, window: u16) -> u32
+        requires fits { Countable self.now.task.now window self.now.above.now }
+        requires good { Q.Queue.good queue.old }
+        requires room { length self.now.above.now ≤ Q.Queue.room queue.old }
+        requires empty { Q.Queue.items queue.old ≡ [] }
+        ensures sum { result ≡ sum_by (plain self.now.task.now window) self.now.above.now }
+        ensures good { Q.Queue.good queue.new }
+        ensures items { Q.Queue.items queue.new ≡ sort extra_before (extras self.now.task.now window self.now.above.now) }
+    {
+        let mut sum = 0;
+        for other in self.above {
+            let plain = self.task.plain(window, other);
+            let carried = self.task.carried(window, other);
+            sum += plain;
+            put_extra(queue, carried.saturating_sub(plain), other.task.level);
+        }
+        sum
     }
-    let free = Extra {
-        amount: 0,
-        level: Level { number: 0 },
-    };
-    let mut cells = [free; 32];
-    let mut queue = Heap::new(&mut cells);
-    let plain = count_plain(&mut queue, task, window, others);
-    plain + take_largest(&mut queue, cores - 1)
-}
 
-/// Whether a window passes with a total: floor(total / cores) + C ≤ window.
-pub fn passes(task: &Task, cores: u8, window: u16, total: u32) -> bool
-    ensures { result ≡ passes task.now cores window total }
-{
-    if cores == 0 {
-        return task.run <= window;
+    /// The rule's total for a window of the task: the interference of the tasks above, or 4,294,967,295 where the case is not
+    /// lawful.
+    pub fn total(&self, window: u16) -> u32
+        ensures equation { result ≡ total self.now.task.now self.now.above.now self.now.cores window }
+        ensures laws { InterferenceLaws self.now.task.now self.now.above.now self.now.cores window }
+    {
+        if !self.is_lawful(window) {
+            // Stays: a total that cannot fail is what is published, and an Option is no plainer than a value that passes nowhere.
+            return u32::MAX;
+        }
+        // Stays: the queue stands on an array of this call, since there is no heap to take memory from.
+        let free = Extra {
+            amount: 0,
+            level: Level { number: 0 },
+        };
+        let mut cells = [free; 32];
+        let mut queue = Heap::new(&mut cells);
+        let plain = self.count_plain(&mut queue, window);
+        plain + take_largest(&mut queue, self.cores - 1)
     }
-    total as u64 / cores as u64 + task.run as u64 <= window as u64
+
+    /// Whether a window passes with a total: floor(total / cores) + C ≤ window.
+    pub fn passes(&self, window: u16, total: u32) -> bool
+        ensures { result ≡ passes self.now.task.now self.now.cores window total }
+    {
+        let run = u64::from(self.task.run);
+        let window = u64::from(window);
+        if self.cores == 0 {
+            return run <= window;
+        }
+        u64::from(total) / u64::from(self.cores) + run <= window
+    }
 }

@@ -1,8 +1,9 @@
 // The cases in which a rule works out a total.
-ghost use Rattle.std.specs.Prelude.{◌≡◌, ◌≤◌, true};
+ghost use Rattle.std.specs.Prelude.{◌≡◌, ◌≤◌, true, length};
 ghost use Rattle.std.specs.List.{AllByRecursion};
 ghost use Rattle.analysis.specs.Interference.{above, all_above, distinct, level_of, lawful, numbers_fit};
 
+use crate::case::Case;
 use crate::task::{BoundedTask, Task};
 
 impl BoundedTask {
@@ -14,26 +15,15 @@ impl BoundedTask {
     }
 }
 
-/// Whether each of the others is within its limits and more urgent than the task.
-pub fn all_above(task: &Task, others: &[BoundedTask]) -> bool
-    ensures { result ≡ all_above task.now others.now }
-{
-    for other in others {
-        if !other.is_above(task) {
-            return false;
-        }
-    }
-    true
-}
-
 // Whether no two of the tasks share a level: a level that is seen is marked.
 fn levels_differ(tasks: &[BoundedTask]) -> bool
     requires { AllByRecursion (λ i. level_of i ≤ 63) tasks.now }
     ensures { result ≡ distinct level_of tasks.now }
 {
+    // Stays: with no heap the levels seen are marks in an array and not a set.
     let mut seen = [false; 64];
     for task in tasks {
-        let level = task.task.level as usize;
+        let level = usize::from(task.task.level);
         if seen[level] {
             return false;
         }
@@ -42,28 +32,31 @@ fn levels_differ(tasks: &[BoundedTask]) -> bool
     true
 }
 
-// Whether cores, number of others, task and window are such that a total is worked out.
-fn numbers_fit(task: &Task, count: usize, cores: u8, window: u16) -> bool
-    ensures { result ≡ numbers_fit task.now count cores window }
-{
-    1 <= cores
-        && cores <= 8
-        && count <= 31
-        && task.within_limits()
-        && task.run <= window
-        && window <= task.deadline
-}
+impl Case<'_> {
+    /// Whether each of the tasks above is within its limits and more urgent than the task.
+    pub fn all_above(&self) -> bool
+        ensures { result ≡ all_above self.now.task.now self.now.above.now }
+    {
+        self.above.iter().all(|other| other.is_above(self.task))
+    }
 
-/// Whether a total is worked out for these: 1 to 8 cores, at most 31 others, all of them more urgent than the task, no two
-/// sharing a level, every task within its limits, and C ≤ window ≤ D.
-pub fn is_lawful(task: &Task, others: &[BoundedTask], cores: u8, window: u16) -> bool
-    ensures { result ≡ lawful task.now others.now cores window }
-{
-    if !numbers_fit(task, others.len(), cores, window) {
-        return false;
+    // Whether cores, number of tasks above, task and window are such that a total is worked out.
+    fn numbers_fit(&self, window: u16) -> bool
+        ensures { result ≡ numbers_fit self.now.task.now (length self.now.above.now) self.now.cores window }
+    {
+        1 <= self.cores
+            && self.cores <= 8
+            && self.above.len() <= 31
+            && self.task.within_limits()
+            && self.task.run <= window
+            && window <= self.task.deadline
     }
-    if !all_above(task, others) {
-        return false;
+
+    /// Whether a total is worked out for a window: 1 to 8 cores, at most 31 tasks above, all of them more urgent than the
+    /// task, no two sharing a level, every task within its limits, and C ≤ window ≤ D.
+    pub fn is_lawful(&self, window: u16) -> bool
+        ensures { result ≡ lawful self.now.task.now self.now.above.now self.now.cores window }
+    {
+        self.numbers_fit(window) && self.all_above() && levels_differ(self.above)
     }
-    levels_differ(others)
 }

@@ -1,6 +1,7 @@
 // Tasks, the work they do in a window, and the total of the deadline rule.
 #![tactic(auto)]
 
+pub mod case;
 pub mod count;
 pub mod lawful;
 pub mod task;
@@ -8,7 +9,7 @@ pub mod work;
 
 #[cfg(test)]
 mod tests {
-    use crate::count::total;
+    use crate::case::Case;
     use crate::task::{BoundedTask, Task};
     use crate::work::amount;
 
@@ -52,11 +53,13 @@ mod tests {
                 bound: 6,
             },
         ];
-        assert_eq!(rt; total(&thirty, &above, 2, 6), 7);
-        assert_eq!(rt;
-            total(&ten, &above, 2, 6),
-            u32::MAX,
-            "the others are not above"
-        );
+        let case = Case {
+            task: &thirty,
+            above: &above,
+            cores: 2,
+        };
+        assert_eq!(rt; case.total(6), 7);
+        let not_above = Case { task: &ten, ..case };
+        assert_eq!(rt; not_above.total(6), u32::MAX, "the others are not above");
     }
 }

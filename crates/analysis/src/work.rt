@@ -10,34 +10,39 @@ pub fn amount(run: u16, gap: u16, window: u32) -> u64
     ensures equation { result ≡ amount run gap window }
     ensures laws { 1 ≤ gap → AmountLaws run gap window }
 {
-    let run = run as u64;
-    let window = window as u64;
+    let run = u64::from(run);
+    let window = u64::from(window);
     if gap == 0 {
         return run.min(window);
     }
-    let gap = gap as u64;
+    let gap = u64::from(gap);
     window / gap * run + run.min(window % gap)
 }
 
-/// The part of a window in which a task's job can be kept waiting before it is late.
-pub fn cap(task: &Task, window: u16) -> u64
-    ensures { result ≡ cap task.now window }
-{
-    window.saturating_sub(task.run) as u64 + 1
-}
+impl Task {
+    /// The part of a window in which a job of this task can be kept waiting before it is late.
+    pub fn cap(&self, window: u16) -> u64
+        ensures { result ≡ cap self.now window }
+    {
+        u64::from(window.saturating_sub(self.run)) + 1
+    }
 
-/// What a more urgent task adds to a window of `task` if it carries no work in.
-pub fn plain(task: &Task, window: u16, other: &BoundedTask) -> u32
-    ensures { result ≡ plain task.now window other.now }
-{
-    amount(other.task.run, other.task.gap, window as u32).min(cap(task, window)) as u32
-}
+    /// What a more urgent task adds to a window of this one if it carries no work in.
+    pub fn plain(&self, window: u16, other: &BoundedTask) -> u32
+        ensures { result ≡ plain self.now window other.now }
+    {
+        let work = amount(other.task.run, other.task.gap, u32::from(window));
+        work.min(self.cap(window)) as u32
+    }
 
-/// What it adds if it carries work in: a job released before the window began. That is never less, if C ≤ bound.
-pub fn carried(task: &Task, window: u16, other: &BoundedTask) -> u32
-    ensures equation { result ≡ carried task.now window other.now }
-    ensures above { 1 ≤ other.now.task.gap → other.now.task.run ≤ other.now.bound → plain task.now window other.now ≤ result }
-{
-    let reach = (window as u32 + other.bound as u32).saturating_sub(other.task.run as u32);
-    amount(other.task.run, other.task.gap, reach).min(cap(task, window)) as u32
+    /// What it adds if it carries work in: a job released before the window began. That is never less, if C ≤ bound.
+    pub fn carried(&self, window: u16, other: &BoundedTask) -> u32
+        ensures equation { result ≡ carried self.now window other.now }
+        ensures above { 1 ≤ other.now.task.gap → other.now.task.run ≤ other.now.bound → plain self.now window other.now ≤ result }
+    {
+        let end = u32::from(window) + u32::from(other.bound);
+        let reach = end.saturating_sub(u32::from(other.task.run));
+        let work = amount(other.task.run, other.task.gap, reach);
+        work.min(self.cap(window)) as u32
+    }
 }

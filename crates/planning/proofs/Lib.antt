@@ -1,5 +1,2 @@
 pub mod Judging
-pub mod Test
 pub mod Urgency
-pub mod Verdicts
-pub mod Walks

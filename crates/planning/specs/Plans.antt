@@ -1,12 +1,10 @@
 -- The rows of a task set under the deadline rule, and the verdict on it.
-use Rattle.std.specs.Prelude.{ℕ, min, max, Bool, cond, List, [], ◌∷◌, ◌++◌, map, Some, None, Option}
+use Rattle.std.specs.Prelude.{ℕ, min, max, Bool, cond, List, [], ◌∷◌, ◌++◌, map, Some, None, Ok, Err, Option, Result}
 use Rattle.planning.specs.declared.refusal.Refusal.{Refusal}
 use Rattle.planning.specs.declared.refusal.Refusal.TheVariants.{NoBound}
 use Rattle.analysis.specs.declared.task.Task.{Task}
 use Rattle.analysis.specs.declared.task.BoundedTask.{BoundedTask}
 use Rattle.planning.specs.declared.verdict.Row.{Row}
-use Rattle.planning.specs.declared.verdict.Verdict.{Verdict}
-use Rattle.planning.specs.declared.verdict.Verdict.TheVariants.{Accepted, Refused}
 use Rattle.planning.specs.Admission.{first_fault, by_level}
 use Rattle.analysis.specs.Interference.{total, passes}
 
@@ -36,10 +34,10 @@ abbrev pub rows_from : ℕ → List BoundedTask → List BoundedTask → List Ro
 rows_from m above [] = []
 rows_from m above (i ∷ is) = cond (row_passes m above i) (row_of m above i ∷ rows_from m (above ++ i ∷ []) is) []
 
-abbrev pub verdict_from : ℕ → List BoundedTask → List BoundedTask → Verdict
-verdict_from m above [] = Accepted
+abbrev pub verdict_from : ℕ → List BoundedTask → List BoundedTask → Result (Unit {0}) Refusal
+verdict_from m above [] = Ok tt
 verdict_from m above (i ∷ is) =
-    cond (row_passes m above i) (verdict_from m (above ++ i ∷ []) is) (Refused (NoBound i.task.level))
+    cond (row_passes m above i) (verdict_from m (above ++ i ∷ []) is) (Err (NoBound i.task.level))
 
 -- fewer than 1 core counts as 1, more than 8 as 8
 abbrev pub core_count : ℕ → ℕ
@@ -49,13 +47,13 @@ abbrev pub rows_after : Option Refusal → List Row → List Row
 rows_after (Some r) rows = []
 rows_after None rows = rows
 
-abbrev pub verdict_after : Option Refusal → Verdict → Verdict
-verdict_after (Some r) v = Refused r
+abbrev pub verdict_after : Option Refusal → Result (Unit {0}) Refusal → Result (Unit {0}) Refusal
+verdict_after (Some r) v = Err r
 verdict_after None v = v
 
 -- a set with a faulty task is refused before any row is worked out
 abbrev pub plan_rows : ℕ → List Task → List Row
 plan_rows n tasks = rows_after (first_fault [] tasks) (rows_from (core_count n) [] (all_at_deadline (by_level tasks)))
 
-abbrev pub plan_verdict : ℕ → List Task → Verdict
+abbrev pub plan_verdict : ℕ → List Task → Result (Unit {0}) Refusal
 plan_verdict n tasks = verdict_after (first_fault [] tasks) (verdict_from (core_count n) [] (all_at_deadline (by_level tasks)))

@@ -1,11 +1,10 @@
 -- The published schedulability test for global fixed priority on m cores, in its own words: a task set passes if every task
 -- k satisfies, for every choice S of at most m - 1 tasks above k,
 --   Σ I_NC(i) + Σ over S of (I_CI(i) - I_NC(i))  <  m × (D_k - C_k + 1).
-use Rattle.std.specs.Prelude.{◌≡◌, ℕ, ◌+◌, ◌-◌, ◌*◌, ◌/◌, ◌<◌, ◌≤◌, min, Bool, List, [], ◌∷◌, ◌++◌, length, None, sum_by, filter}
+use Rattle.std.specs.Prelude.{◌≡◌, ℕ, ◌+◌, ◌-◌, ◌*◌, ◌/◌, ◌<◌, ◌≤◌, min, Bool, List, [], ◌∷◌, ◌++◌, length, None, Ok, Err, Result, sum_by, filter}
+use Rattle.planning.specs.declared.refusal.Refusal.{Refusal}
 use Rattle.planning.specs.declared.refusal.Refusal.TheVariants.{NoBound}
 use Rattle.analysis.specs.declared.task.Task.{Task}
-use Rattle.planning.specs.declared.verdict.Verdict.{Verdict}
-use Rattle.planning.specs.declared.verdict.Verdict.TheVariants.{Accepted, Refused}
 use Rattle.planning.specs.Admission.{first_fault, by_level}
 
 -- I_NC: the interference of task i without a carried-in job, in a window of D_k slots
@@ -59,9 +58,9 @@ pub record Broken (m : ℕ) (tasks : List Task) (level : ℕ) : Type 0 where
   pub breaks : limit m task ≤ load task above choice
 
 -- a verdict by the published test
-pub record Judged (m : ℕ) (tasks : List Task) (v : Verdict) : Type 0 where
+pub record Judged (m : ℕ) (tasks : List Task) (v : Result (Unit {0}) Refusal) : Type 0 where
   -- it accepts exactly the schedulable sets
-  pub accepts : v ≡ Accepted → Schedulable m tasks
-  pub accepted : Schedulable m tasks → v ≡ Accepted
+  pub accepts : v ≡ Ok tt → Schedulable m tasks
+  pub accepted : Schedulable m tasks → v ≡ Ok tt
   -- and a refusal for want of a bound names the most urgent task that breaks the test
-  pub refuses : (level : ℕ) → v ≡ Refused (NoBound level) → Broken m tasks level
+  pub refuses : (level : ℕ) → v ≡ Err (NoBound level) → Broken m tasks level

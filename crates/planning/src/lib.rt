@@ -1,4 +1,4 @@
-// Checking a whole list of tasks by the deadline rule.
+// Checking a whole list of tasks, and the bounds that a sorted set shows.
 #![tactic(auto)]
 
 pub mod admission;
@@ -8,59 +8,52 @@ pub mod verdict;
 
 #[cfg(test)]
 mod tests {
-    use crate::plan::plan;
+    use crate::plan::judge;
     use crate::refusal::Refusal;
-    use crate::verdict::Verdict;
-    use analysis::task::Task;
+    use analysis::task::{BoundedTask, Task};
     use std::test::Fail;
 
-    fn house(deadline: u16) -> [Task; 3] {
+    // Three tasks with bounds below their deadlines, the last with this bound.
+    fn house(bound: u16) -> [BoundedTask; 3] {
         [
-            Task {
-                level: 30,
-                run: 2,
-                deadline,
-                gap: 10,
+            BoundedTask {
+                task: Task {
+                    level: 10,
+                    run: 2,
+                    deadline: 4,
+                    gap: 5,
+                },
+                bound: 2,
             },
-            Task {
-                level: 10,
-                run: 2,
-                deadline: 4,
-                gap: 5,
+            BoundedTask {
+                task: Task {
+                    level: 20,
+                    run: 3,
+                    deadline: 6,
+                    gap: 8,
+                },
+                bound: 3,
             },
-            Task {
-                level: 20,
-                run: 3,
-                deadline: 6,
-                gap: 8,
+            BoundedTask {
+                task: Task {
+                    level: 30,
+                    run: 2,
+                    deadline: 6,
+                    gap: 10,
+                },
+                bound,
             },
         ]
     }
 
     #[test]
-    fn level_30_needs_deadline_5(rt: HostRuntime) -> Result<(), Fail> {
-        let fits = plan(rt.alloc(), 2, &house(5))?;
-        assert_eq!(rt; fits.verdict, Verdict::Accepted);
+    fn level_30_passes_at_bound_4(rt: HostRuntime) -> Result<(), Fail> {
+        let fits = judge(rt.alloc(), 2, &house(4))?;
+        assert_eq!(rt; fits.verdict, Ok(()));
         assert_eq!(rt; fits.rows.len(), 3);
-        let late = plan(rt.alloc(), 2, &house(4))?;
-        assert_eq!(rt; late.verdict, Verdict::Refused(Refusal::NoBound(30)));
+        let late = judge(rt.alloc(), 2, &house(3))?;
+        assert_eq!(rt; late.verdict, Err(Refusal::NoBound(30)));
         assert_eq!(rt; late.rows.len(), 2);
-        Ok(())
-    }
-
-    #[test]
-    fn faulty_task_is_refused_first(rt: HostRuntime) -> Result<(), Fail> {
-        let mut tasks = house(1);
-        tasks[2].level = 10;
-        assert_eq!(rt;
-            plan(rt.alloc(), 2, &tasks)?.verdict,
-            Verdict::Refused(Refusal::BadTiming(30))
-        );
-        tasks[0].deadline = 9;
-        assert_eq!(rt;
-            plan(rt.alloc(), 2, &tasks)?.verdict,
-            Verdict::Refused(Refusal::LevelTaken(10))
-        );
         Ok(())
     }
 }

@@ -1,28 +1,24 @@
-// The check of a whole task set under the deadline rule.
+// The check of the bounds that a task set shows.
 ghost use Rattle.std.specs.Prelude.{◌≡◌, [], IfOk};
-ghost use Rattle.planning.specs.Plans.{row_verdict, rows_from, verdict_from, plan_rows, plan_verdict, core_count};
-ghost use Rattle.planning.specs.Published.{Judged};
+ghost use Rattle.planning.specs.Plans.{row_verdict, rows_from, verdict_from};
 
-use crate::admission::{Stop, admit};
 use crate::refusal::Refusal;
-use crate::verdict::{Plan, Row, Verdict};
-use analysis::count::{passes, total};
-use analysis::task::{BoundedTask, Task};
+use crate::verdict::{Plan, Row};
+use analysis::case::Case;
+use analysis::task::BoundedTask;
 use std::alloc::{AllocError, Global};
 
-/// The row of a task with its bound as the window, or none where that does not pass; `above` are the more urgent tasks.
-pub fn row(task: &BoundedTask, above: &[BoundedTask], cores: u8) -> Option<Row>
-    ensures { result ≡ row_verdict cores above.now task.now }
+// Stays: no plainer, as these two test the bounds that a set shows, whatever they are. `plans::plan::judge` works bounds out
+// anew, so what it says of a set by the deadline rule is what is said here of the set with every task at its deadline.
+
+/// The row of a task with this bound as the window, or none where that does not pass.
+pub fn row(case: &Case, bound: u16) -> Option<Row>
+    ensures { result ≡ row_verdict case.now.cores case.now.above.now (record { task = case.now.task.now; bound = bound }) }
 {
-    let total = total(&task.task, above, cores, task.bound);
-    if !passes(&task.task, cores, task.bound, total) {
-        return None;
-    }
-    Some(Row {
-        task: task.task,
-        total,
-        bound: task.bound,
-    })
+    let task = *case.task;
+    let total = case.total(bound);
+    case.passes(bound, total)
+        .then_some(Row { task, total, bound })
 }
 
 /// The rows of a sorted set and the verdict on it: the first task that does not pass ends it.
@@ -32,31 +28,17 @@ pub fn judge(heap: Global, cores: u8, set: &[BoundedTask]) -> Result<Plan, Alloc
 {
     let mut rows = Vec::new(heap);
     for (i, task) in set.iter().enumerate() {
-        let Some(row) = row(task, &set[0..i], cores) else {
-            let verdict = Verdict::Refused(Refusal::NoBound(task.task.level));
+        let case = Case {
+            task: &task.task,
+            above: &set[..i],
+            cores,
+        };
+        let Some(row) = row(&case, task.bound) else {
+            let verdict = Err(Refusal::NoBound(task.task.level));
             return Ok(Plan { rows, verdict });
         };
         rows.push(row)?;
     }
-    let verdict = Verdict::Accepted;
+    let verdict = Ok(());
     Ok(Plan { rows, verdict })
-}
-
-/// Checks a list of tasks, in any order, on so many cores (fewer than 1 count as 1, more than 8 as 8): the rows of the tasks
-/// that pass, most urgent first, and the verdict, which is that of the published test.
-pub fn plan(heap: Global, cores: u8, tasks: &[Task]) -> Result<Plan, AllocError>
-    ensures rows { IfOk result (λ p. p.rows.items ≡ plan_rows cores tasks.now) }
-    ensures verdict { IfOk result (λ p. p.verdict ≡ plan_verdict cores tasks.now) }
-    ensures published { IfOk result (λ p. Judged (core_count cores) tasks.now p.verdict) }
-{
-    match admit(heap, tasks) {
-        Ok(set) => judge(heap, cores.max(1).min(8), set.as_slice()),
-        Err(stop) => match stop {
-            Stop::Memory => Err(AllocError),
-            Stop::Refused(refusal) => Ok(Plan {
-                rows: Vec::new(heap),
-                verdict: Verdict::Refused(refusal),
-            }),
-        },
-    }
 }

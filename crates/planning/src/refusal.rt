@@ -18,6 +18,7 @@ pub enum Refusal {
 }
 
 impl Refusal {
+    // Stays: a rule of the project, as the planner prints these numbers and the specification fixes them.
     /// The number by which the refusal is known.
     pub fn number(&self) -> u8
         ensures { result ≡ number self.now }

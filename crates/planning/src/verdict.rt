@@ -10,12 +10,8 @@ pub struct Row {
     pub bound: u16,
 }
 
-/// Whether a task set fits.
-#[derive(Clone, Copy, PartialEq, Eq, Debug)]
-pub enum Verdict {
-    Accepted,
-    Refused(Refusal),
-}
+/// Whether a task set fits, and if not, why.
+pub type Verdict = Result<(), Refusal>;
 
 /// The rows of the tasks that passed, most urgent first, and the verdict on the whole set.
 #[derive(Drop)]

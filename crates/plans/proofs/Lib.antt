@@ -1,3 +1,4 @@
+pub mod Deadline
 pub mod Plans
 pub mod Test
 pub mod Verdicts

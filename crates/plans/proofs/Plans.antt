@@ -1,24 +1,22 @@
 -- What a plan promises. Assumes nothing.
-use Rattle.std.proofs.Common.{◌≡◌, ℕ, ◌+◌, ◌<◌, ◌≤◌, List, [], ◌∷◌, ◌++◌, length, get_or, take, drop, Some, None, Ok, Err, Option, Result, sym, refl, ap, ◌∙◌, subst, arith}
-use Rattle.std.proofs.lemmas.List.{append_assoc, append-nil, length-append, map-append, drop_more, take_at, take_more}
+use Rattle.std.proofs.Common.{◌≡◌, ℕ, ◌≤◌, List, [], ◌∷◌, ◌++◌, Some, None, Ok, Err, Option, sym, refl, ap, ◌∙◌, subst}
+use Rattle.std.proofs.lemmas.List.{append-nil, map-append}
 use Rattle.planning.specs.declared.refusal.Refusal.{Refusal}
 use Rattle.planning.specs.declared.refusal.Refusal.TheVariants.{NoBound}
 use Rattle.analysis.specs.declared.task.Task.{Task}
 use Rattle.analysis.specs.declared.task.BoundedTask.{BoundedTask}
 use Rattle.analysis.specs.Interference.{level_of}
 use Rattle.analysis.specs.Kept.{Kept}
-use Rattle.rules.specs.declared.unbounded.NoBound.{NoBound as Lack}
-use Rattle.rules.specs.Bounds.{Rebound, Rebounded, Bounded, Lacking, rebound, rebound_answer, rebound_set, tasks_of}
+use Rattle.rules.specs.Bounds.{Rebound, Rebounded, Bounded, Lacking, rebound, tasks_of}
 use Rattle.rules.specs.Rules.{Rule, LawfulRule}
 use Rattle.rules.proofs.Rebounds.{rebounded, rebound_keeps}
 use Rattle.schedule.proofs.Sound.{punctual_from}
 use Rattle.planning.specs.declared.verdict.Row.{Row}
-use Rattle.planning.specs.declared.verdict.Verdict.TheVariants.{Accepted, Refused}
 use Rattle.planning.specs.Admission.{first_fault, by_level}
 use Rattle.planning.specs.Plans.{all_at_deadline, rows_after, verdict_after}
-use Rattle.plans.specs.Plans.{row_of, rows_from, verdict_on}
+use Rattle.plans.specs.Plans.{rows_from, verdict_on}
 use Rattle.plans.specs.Promises.{Promised, Accepting, Unbounded, shown}
-use Rattle.planning.proofs.Verdicts.{first_fault_kind, refused_not_accepted, same_refused}
+use Rattle.plans.proofs.Verdicts.{first_fault_kind, refused_not_accepted, same_refused}
 use Rattle.plans.proofs.Walks.{walk_from}
 
 -- the rows show the tasks they were made from
@@ -26,17 +24,7 @@ shown_rows : (r : Rule) (m : ℕ) (above is : List BoundedTask) → shown (rows_
 shown_rows r m above [] = refl
 shown_rows r m above (i ∷ is) = ap (λ js. i ∷ js) (shown_rows r m (above ++ i ∷ []) is)
 
--- one row more
-pub rows_more :
-    (r : Rule) (m : ℕ) (rows : List Row) (set : List BoundedTask) (i : ℕ) (d : BoundedTask) →
-    i < length set →
-    rows ++ rows_from r m (take i set) (drop i set) ≡ (rows ++ row_of r m (take i set) (get_or set i d) ∷ []) ++ rows_from r m (take (i + 1) set) (drop (i + 1) set)
-rows_more r m rows set i d l =
-    ap (λ is. rows ++ rows_from r m (take i set) is) (drop_more set i d l)
-    ∙ ap (λ above. rows ++ row_of r m (take i set) (get_or set i d) ∷ rows_from r m above (drop (i + 1) set)) (sym (take_more set i d l))
-    ∙ sym (append_assoc rows (row_of r m (take i set) (get_or set i d) ∷ []) (rows_from r m (take (i + 1) set) (drop (i + 1) set)))
-
-tasks_deadline : (ks : List Task) → tasks_of (all_at_deadline ks) ≡ ks
+pub tasks_deadline : (ks : List Task) → tasks_of (all_at_deadline ks) ≡ ks
 tasks_deadline [] = refl
 tasks_deadline (k ∷ ks) = ap (λ js. k ∷ js) (tasks_deadline ks)
 
@@ -89,11 +77,11 @@ module _ (r : Rule) (law : LawfulRule r) (m : ℕ) (low : 1 ≤ m) (high : m ≤
         refuses = λ l v. some_left l found.left refl v;
       }
     where
-      none_left : (is : List BoundedTask) → verdict_on is ≡ Accepted → is ≡ []
+      none_left : (is : List BoundedTask) → verdict_on is ≡ Ok tt → is ≡ []
       none_left [] v = refl
       none_left (i ∷ is) v = absurd (refused_not_accepted _ v)
 
-      some_left : (l : ℕ) (is : List BoundedTask) → found.left ≡ is → verdict_on is ≡ Refused (NoBound l) → Unbounded r m tasks table l
+      some_left : (l : ℕ) (is : List BoundedTask) → found.left ≡ is → verdict_on is ≡ Err (NoBound l) → Unbounded r m tasks table l
       some_left l [] e v = absurd (refused_not_accepted _ (sym v))
       some_left l (i ∷ is) e v = unbounded i is l e (same_refused _ _ v)
 
@@ -109,28 +97,3 @@ module _ (r : Rule) (law : LawfulRule r) (m : ℕ) (low : 1 ≤ m) (high : m ≤
             accepts = λ v. absurd (refused_not_accepted q v);
             refuses = λ l v. let g : q ≡ NoBound l = cc in absurd (first_fault_kind [] tasks l (f ∙ ap Some g));
           }
-
--- what a task without a bound tells of the bounds
-pub record Told (o : Rebound) (place level : ℕ) (set : List BoundedTask) : Type 0 where
-  pub within : place ≤ length set
-  pub front : take place set ≡ o.done
-  pub refused : Refused (NoBound level) ≡ verdict_on o.left
-
-pub told_from : (o : Rebound) (place level : ℕ) (set : List BoundedTask) → Err (record { place = place; level = level }) ≡ rebound_answer o → set ≡ rebound_set o → Told o place level set
-told_from o place level set a s = split o.left refl
-  where
-    split : (left : List BoundedTask) → o.left ≡ left → Told o place level set
-    split [] e =
-        let f : ◌≡◌ {A = Result (Unit {0}) Lack} (Err (record { place = place; level = level })) (Ok tt) = a ∙ ap (λ is. rebound_answer (record { done = o.done; left = is })) e in
-        let z : ◌≡◌ {A = ℕ} 0 1 = cc in
-        absurd (omega arith)
-    split (i ∷ is) e =
-        let f : ◌≡◌ {A = Result (Unit {0}) Lack} (Err (record { place = place; level = level })) (Err (record { place = length o.done; level = level_of i })) = a ∙ ap (λ is. rebound_answer (record { done = o.done; left = is })) e in
-        let n : ◌≡◌ {A = Lack} (record { place = place; level = level }) (record { place = length o.done; level = level_of i }) = cc in
-        let p : place ≡ length o.done = ap (λ (x : Lack). x.place) n in
-        let l : level ≡ level_of i = ap (λ (x : Lack). x.level) n in
-        record {
-          within = omega (arith, ap length s, length-append o.done o.left);
-          front = ap (take place) s ∙ take_at o.done o.left place (sym p);
-          refused = ap (λ k. Refused (NoBound k)) l ∙ sym (ap verdict_on e);
-        }

@@ -1,5 +1,6 @@
 -- The rows of a task set under a counting rule, and the verdict on it.
-use Rattle.std.specs.Prelude.{ℕ, List, [], ◌∷◌, ◌++◌}
+use Rattle.std.specs.Prelude.{ℕ, List, [], ◌∷◌, ◌++◌, Ok, Err, Result}
+use Rattle.planning.specs.declared.refusal.Refusal.{Refusal}
 use Rattle.planning.specs.declared.refusal.Refusal.TheVariants.{NoBound}
 use Rattle.analysis.specs.declared.task.Task.{Task}
 use Rattle.analysis.specs.declared.task.BoundedTask.{BoundedTask}
@@ -7,8 +8,6 @@ use Rattle.analysis.specs.Interference.{level_of}
 use Rattle.rules.specs.Bounds.{Rebound, rebound}
 use Rattle.rules.specs.Rules.{Rule}
 use Rattle.planning.specs.declared.verdict.Row.{Row}
-use Rattle.planning.specs.declared.verdict.Verdict.{Verdict}
-use Rattle.planning.specs.declared.verdict.Verdict.TheVariants.{Accepted, Refused}
 use Rattle.planning.specs.Admission.{first_fault, by_level}
 use Rattle.planning.specs.Plans.{all_at_deadline, core_count, rows_after, verdict_after}
 
@@ -22,9 +21,9 @@ rows_from r m above [] = []
 rows_from r m above (i ∷ is) = row_of r m above i ∷ rows_from r m (above ++ i ∷ []) is
 
 -- accepted where no task is left without a bound
-abbrev pub verdict_on : List BoundedTask → Verdict
-verdict_on [] = Accepted
-verdict_on (i ∷ is) = Refused (NoBound (level_of i))
+abbrev pub verdict_on : List BoundedTask → Result (Unit {0}) Refusal
+verdict_on [] = Ok tt
+verdict_on (i ∷ is) = Err (NoBound (level_of i))
 
 -- the bounds of the tasks, most urgent first
 abbrev pub outcome : Rule → ℕ → List Task → Rebound
@@ -34,5 +33,5 @@ outcome r n tasks = rebound r (core_count n) [] (all_at_deadline (by_level tasks
 abbrev pub plan_rows : Rule → ℕ → List Task → List Row
 plan_rows r n tasks = rows_after (first_fault [] tasks) (rows_from r (core_count n) [] (outcome r n tasks).done)
 
-abbrev pub plan_verdict : Rule → ℕ → List Task → Verdict
+abbrev pub plan_verdict : Rule → ℕ → List Task → Result (Unit {0}) Refusal
 plan_verdict r n tasks = verdict_after (first_fault [] tasks) (verdict_on (outcome r n tasks).left)

@@ -1,5 +1,5 @@
 -- What a plan promises, whatever the rule.
-use Rattle.std.specs.Prelude.{◌≡◌, ℕ, List, [], ◌∷◌, ◌++◌, map, None}
+use Rattle.std.specs.Prelude.{◌≡◌, ℕ, List, [], ◌∷◌, ◌++◌, map, None, Ok, Err, Result}
 use Rattle.analysis.specs.declared.task.Task.{Task}
 use Rattle.analysis.specs.declared.task.BoundedTask.{BoundedTask}
 use Rattle.analysis.specs.Kept.{Kept}
@@ -7,10 +7,9 @@ use Rattle.rules.specs.Bounds.{Bounded, tasks_of}
 use Rattle.rules.specs.Rules.{Rule}
 use Rattle.rules.specs.Search.{IsBound}
 use Rattle.schedule.specs.Soundness.{Punctual}
+use Rattle.planning.specs.declared.refusal.Refusal.{Refusal}
 use Rattle.planning.specs.declared.refusal.Refusal.TheVariants.{NoBound}
 use Rattle.planning.specs.declared.verdict.Row.{Row}
-use Rattle.planning.specs.declared.verdict.Verdict.{Verdict}
-use Rattle.planning.specs.declared.verdict.Verdict.TheVariants.{Accepted, Refused}
 use Rattle.planning.specs.Admission.{by_level}
 
 -- the tasks of some rows with the bounds shown
@@ -35,8 +34,8 @@ pub record Accepting (m : ℕ) (tasks : List Task) (rows : List Row) : Type 0 wh
   pub punctual : Punctual m (shown rows)
 
 -- rows and verdict of a plan on m cores by the rule r
-pub record Promised (r : Rule) (m : ℕ) (tasks : List Task) (rows : List Row) (v : Verdict) : Type 0 where
+pub record Promised (r : Rule) (m : ℕ) (tasks : List Task) (rows : List Row) (v : Result (Unit {0}) Refusal) : Type 0 where
   -- each bound shown is the least window that passes against the tasks above
   pub least : Bounded r m [] (shown rows)
-  pub accepts : v ≡ Accepted → Accepting m tasks rows
-  pub refuses : (level : ℕ) → v ≡ Refused (NoBound level) → Unbounded r m tasks rows level
+  pub accepts : v ≡ Ok tt → Accepting m tasks rows
+  pub refuses : (level : ℕ) → v ≡ Err (NoBound level) → Unbounded r m tasks rows level

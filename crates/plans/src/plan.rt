@@ -1,16 +1,18 @@
 // The check of a whole task set.
 ghost use Rattle.std.specs.Prelude.{◌≡◌, [], IfOk};
-ghost use Rattle.planning.specs.Plans.{core_count};
+ghost use Rattle.planning.specs.Plans as tested;
+ghost use Rattle.planning.specs.Plans.{core_count, all_at_deadline};
 ghost use Rattle.plans.specs.Plans.{rows_from, verdict_on, plan_rows, plan_verdict};
 ghost use Rattle.plans.specs.Promises.{Promised};
 ghost use Rattle.planning.specs.Published.{Judged};
-ghost use Rattle.rules.specs.Bounds.{rebound, rebound_set};
+ghost use Rattle.rules.specs.Bounds.{rebound, rebound_set, tasks_of};
 ghost use Rattle.rules.specs.Rules.{deadline};
 
+use analysis::case::Case;
 use analysis::task::{BoundedTask, Task};
 use planning::admission::{Stop, admit};
 use planning::refusal::Refusal;
-use planning::verdict::{Plan, Row, Verdict};
+use planning::verdict::{Plan, Row};
 use rules::bounds::rebound;
 use rules::rule::CountingRule;
 use rules::unbounded::NoBound;
@@ -27,7 +29,12 @@ pub fn rows<R: CountingRule>(
 {
     let mut rows = Vec::new(heap);
     for (i, task) in set.iter().enumerate() {
-        let total = rule.total(&task.task, &set[0..i], cores, task.bound);
+        let case = Case {
+            task: &task.task,
+            above: &set[..i],
+            cores,
+        };
+        let total = rule.total(&case, task.bound);
         rows.push(Row {
             task: task.task,
             total,
@@ -48,16 +55,18 @@ pub fn judge<R: CountingRule>(
     ensures rows { IfOk result (λ p. p.rows.items ≡ rows_from (R.CountingRule.rule rule.now) cores [] (rebound (R.CountingRule.rule rule.now) cores [] set.old).done) }
     ensures verdict { IfOk result (λ p. p.verdict ≡ verdict_on (rebound (R.CountingRule.rule rule.now) cores [] set.old).left) }
     ensures set { set.new ≡ rebound_set (rebound (R.CountingRule.rule rule.now) cores [] set.old) }
+    ensures deadline_rows { IfOk result (λ p. R.CountingRule.rule rule.now ≡ deadline → p.rows.items ≡ tested.rows_from cores [] (all_at_deadline (tasks_of set.old))) }
+    ensures deadline_verdict { IfOk result (λ p. R.CountingRule.rule rule.now ≡ deadline → p.verdict ≡ tested.verdict_from cores [] (all_at_deadline (tasks_of set.old))) }
 {
     match rebound(rule, cores, set, 0) {
         Ok(()) => {
             let rows = rows(heap, rule, cores, set)?;
-            let verdict = Verdict::Accepted;
+            let verdict = Ok(());
             Ok(Plan { rows, verdict })
         }
         Err(NoBound { place, level }) => {
-            let rows = rows(heap, rule, cores, &set[0..place])?;
-            let verdict = Verdict::Refused(Refusal::NoBound(level));
+            let rows = rows(heap, rule, cores, &set[..place])?;
+            let verdict = Err(Refusal::NoBound(level));
             Ok(Plan { rows, verdict })
         }
     }
@@ -75,18 +84,16 @@ pub fn plan<R: CountingRule>(
     ensures verdict { IfOk result (λ p. p.verdict ≡ plan_verdict (R.CountingRule.rule rule.now) cores tasks.now) }
     ensures promised { IfOk result (λ p. Promised (R.CountingRule.rule rule.now) (core_count cores) tasks.now p.rows.items p.verdict) }
     ensures published { IfOk result (λ p. R.CountingRule.rule rule.now ≡ deadline → Judged (core_count cores) tasks.now p.verdict) }
+    ensures deadline_rows { IfOk result (λ p. R.CountingRule.rule rule.now ≡ deadline → p.rows.items ≡ tested.plan_rows cores tasks.now) }
+    ensures deadline_verdict { IfOk result (λ p. R.CountingRule.rule rule.now ≡ deadline → p.verdict ≡ tested.plan_verdict cores tasks.now) }
 {
     match admit(heap, tasks) {
-        Ok(set) => {
-            let mut set = set;
-            judge(heap, rule, cores.max(1).min(8), set.as_mut_slice())
+        Ok(mut set) => judge(heap, rule, cores.clamp(1, 8), set.as_mut_slice()),
+        Err(Stop::Memory) => Err(AllocError),
+        Err(Stop::Refused(refusal)) => {
+            let rows = Vec::new(heap);
+            let verdict = Err(refusal);
+            Ok(Plan { rows, verdict })
         }
-        Err(stop) => match stop {
-            Stop::Memory => Err(AllocError),
-            Stop::Refused(refusal) => Ok(Plan {
-                rows: Vec::new(heap),
-                verdict: Verdict::Refused(refusal),
-            }),
-        },
     }
 }

@@ -1,17 +1,15 @@
 -- What the planner answers to a sheet.
-use Rattle.std.specs.Prelude.{◌≡◌, ℕ, Bool, true, false, [], ◌++◌, Ok, Err, string_bytes, Result}
+use Rattle.std.specs.Prelude.{◌≡◌, ℕ, Bool, false, [], ◌++◌, Ok, Err, is_ok, string_bytes, Result}
 use Rattle.planning.specs.Plans.{plan_rows, plan_verdict}
 use Rattle.planning.specs.Published.{Judged}
-use Rattle.planning.specs.declared.verdict.Verdict.{Verdict}
-use Rattle.planning.specs.declared.verdict.Verdict.TheVariants.{Accepted, Refused}
+use Rattle.planning.specs.declared.refusal.Refusal.{Refusal}
 use Rattle.sheets.specs.declared.entry.Fault.{Fault}
 use Rattle.reports.specs.declared.reply.Answer.{Answer}
 use Rattle.sheets.specs.Reading.{Page}
 use Rattle.reports.specs.Report.{report_text, fault_text, line_feed}
 
-abbrev pub accepted : Verdict → Bool
-accepted Accepted = true
-accepted (Refused r) = false
+abbrev pub accepted : Result (Unit {0}) Refusal → Bool
+accepted v = is_ok v
 
 -- a sheet that can be read: the report on its tasks, whose verdict is that of the published test on its cores
 pub record Planned (p : Page) (a : Answer) : Type 0 where

@@ -1,12 +1,10 @@
 -- The text of the answer.
-use Rattle.std.specs.Prelude.{ℕ, ◌-◌, List, [], ◌∷◌, ◌++◌, length, replicate, codes, decimal}
+use Rattle.std.specs.Prelude.{ℕ, ◌-◌, List, [], ◌∷◌, ◌++◌, length, Ok, Err, Result, replicate, codes, decimal}
 use Rattle.std.specs.List.{flat_map}
 use Rattle.planning.specs.Refusals.{number}
 use Rattle.planning.specs.declared.refusal.Refusal.{Refusal}
 use Rattle.planning.specs.declared.refusal.Refusal.TheVariants.{BadLevel, BadTiming, LevelTaken, TooManyTasks, NoBound}
 use Rattle.planning.specs.declared.verdict.Row.{Row}
-use Rattle.planning.specs.declared.verdict.Verdict.{Verdict}
-use Rattle.planning.specs.declared.verdict.Verdict.TheVariants.{Accepted, Refused}
 use Rattle.sheets.specs.declared.entry.Fault.{Fault}
 use Rattle.sheets.specs.declared.entry.Fault.TheVariants.{UnknownWord, MissingWord, ExtraWord, NotNumber, TooLarge, BadCores, UnknownRule, CoresTwice, RuleTwice, NoCores, NoRule}
 use Rattle.sheets.specs.declared.entry.Rule.{Rule}
@@ -39,15 +37,15 @@ reason_text (LevelTaken l) = codes "level " ++ (decimal l ++ codes " has a task 
 reason_text (TooManyTasks l) = codes "level " ++ (decimal l ++ codes " comes after 32 tasks")
 reason_text (NoBound l) = codes "level " ++ (decimal l ++ codes " has no bound")
 
-abbrev pub verdict_text : Verdict → List ℕ
-verdict_text Accepted = codes "accepted"
-verdict_text (Refused r) = codes "refused " ++ (decimal (number r) ++ (codes ": " ++ reason_text r))
+abbrev pub verdict_text : Result (Unit {0}) Refusal → List ℕ
+verdict_text (Ok u) = codes "accepted"
+verdict_text (Err r) = codes "refused " ++ (decimal (number r) ++ (codes ": " ++ reason_text r))
 
 abbrev pub line_feed : List ℕ
 line_feed = 10 ∷ []
 
 -- the whole answer, a line for each row between the columns and the verdict
-abbrev pub report_text : ℕ → Rule → List Row → Verdict → List ℕ
+abbrev pub report_text : ℕ → Rule → List Row → Result (Unit {0}) Refusal → List ℕ
 report_text cores rule rows verdict =
     heading_text cores rule ++ (line_feed ++ (columns_text ++ (line_feed ++ (flat_map (λ r. row_text r ++ line_feed) rows ++ (verdict_text verdict ++ line_feed)))))
 

@@ -1,26 +1,16 @@
 // The whole answer to a sheet.
 ghost use Rattle.std.specs.Prelude.{◌≡◌, ◌≤◌, IfOk};
-ghost use Rattle.reports.specs.Answers.{Answers, Faulty, Planned, accepted};
+ghost use Rattle.reports.specs.Answers.{Answers, Faulty, Planned};
 ghost use Rattle.sheets.specs.Outcomes.{page_of};
 ghost use Rattle.sheets.specs.Reading.{read_text};
 
 use crate::reply::Answer;
 use crate::report::{fault_line, report};
-use planning::plan::plan;
-use planning::verdict::Verdict;
+use plans::plan::plan;
+use rules::deadline::DeadlineRule;
 use sheets::entry::Fault;
 use sheets::reading::{ReadError, Sheet, read};
 use std::alloc::{AllocError, Global};
-
-// Whether the verdict is a yes.
-fn is_accepted(verdict: &Verdict) -> bool
-    ensures { result ≡ accepted verdict.now }
-{
-    match verdict {
-        Verdict::Accepted => true,
-        Verdict::Refused(_) => false,
-    }
-}
 
 // The answer to a sheet that was read.
 fn planned(heap: Global, sheet: &Sheet) -> Result<Answer, AllocError>
@@ -28,9 +18,9 @@ fn planned(heap: Global, sheet: &Sheet) -> Result<Answer, AllocError>
     requires high { sheet.now.cores ≤ 8 }
     ensures { IfOk result (λ a. Planned (page_of sheet.now) a) }
 {
-    let plan = plan(heap, sheet.cores, sheet.tasks.as_slice())?;
+    let plan = plan(heap, &DeadlineRule, sheet.cores, sheet.tasks.as_slice())?;
     let out = report(heap, sheet.cores, sheet.rule, &plan)?;
-    let accepted = is_accepted(&plan.verdict);
+    let accepted = plan.verdict.is_ok();
     let err = String::new(heap);
     Ok(Answer { out, err, accepted })
 }
@@ -52,9 +42,7 @@ pub fn answer(heap: Global, text: &str) -> Result<Answer, AllocError>
 {
     match read(heap, text) {
         Ok(sheet) => planned(heap, &sheet),
-        Err(error) => match error {
-            ReadError::Memory => Err(AllocError),
-            ReadError::Line { number, fault } => faulty(heap, number, fault),
-        },
+        Err(ReadError::Memory) => Err(AllocError),
+        Err(ReadError::Line { number, fault }) => faulty(heap, number, fault),
     }
 }

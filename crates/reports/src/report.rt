@@ -77,8 +77,8 @@ pub fn verdict_line(heap: Global, verdict: &Verdict) -> Result<String, AllocErro
     ensures { IfOk result (λ s. string_bytes s ≡ verdict_text verdict.now) }
 {
     match verdict {
-        Verdict::Accepted => String::from_str(heap, "accepted"),
-        Verdict::Refused(refusal) => {
+        Ok(()) => String::from_str(heap, "accepted"),
+        Err(refusal) => {
             let number = refusal.number();
             let reason = reason(heap, refusal)?;
             format!(in heap; "refused {number}: {reason}")

@@ -1,5 +1,12 @@
 -- The search finds the least number that passes. Assumes nothing.
-use Rattle.std.proofs.Common.{◌≡◌, ℕ, zero, suc, ◌+◌, ◌-◌, ◌<◌, ◌≤◌, Bool, true, false, cond, List, Some, None, Option, refl, subst, ⊎_elim, arith}
+use Rattle.std.proofs.Common.{◌≡◌, ℕ, zero, suc, ◌+◌, ◌-◌, ◌<◌, ◌≤◌, Bool, true, false, cond, List, [], ◌∷◌, Some, None, Option, refl, sym, ap, ◌∙◌, add-one, subst, ⊎_elim, arith}
+use Rattle.std.specs.List.{find, range_with_len}
+use Rattle.std.specs.declared.ops.RangeInclusive.{RangeInclusive}
+use Rattle.std.specs.Range.{range_inclusive_start, range_inclusive_end, range_inclusive_exhausted, range_inclusive_len, range_inclusive_left}
+use Rattle.std.proofs.iter.runs.Sources.{nat_range_inclusive_steps}
+use Rattle.std.proofs.lemmas.Iterator.{YieldsList}
+use Rattle.std.proofs.lemmas.Iterator.Consumers.{YieldsList-from_shown}
+use Rattle.std.proofs.lemmas.List.FromFn.{length-range_with_len}
 use Rattle.std.proofs.lemmas.Bool.{cases_lt}
 use Rattle.analysis.specs.declared.task.Task.{Task}
 use Rattle.analysis.specs.declared.task.BoundedTask.{BoundedTask}
@@ -39,24 +46,39 @@ module _ (p : ℕ → Bool) where
       (λ (h : last + 1 + 1 ≤ first). let z : last + 1 - first ≡ 0 = omega arith in rw z (λ y a b. absurd (omega arith)))
       (cases_lt first (last + 1 + 1))
 
-  module _ (last x : ℕ) where
-    -- x is tried
-    pub least_here : x ≤ last → p x ≡ true → least p (last + 1 - x) x ≡ Some x
-    unfolding least
-    least_here l e = let z : last + 1 - x ≡ suc (last - x) = omega arith in rw (z, e) refl
-
-    pub least_next : x ≤ last → p x ≡ false → least p (last + 1 - x) x ≡ least p (last + 1 - (x + 1)) (x + 1)
-    unfolding least
-    least_next l e =
-        let z : last + 1 - x ≡ suc (last - x) = omega arith in
-        let s : suc x ≡ x + 1 = omega arith in
-        let n : last - x ≡ last + 1 - (x + 1) = omega arith in
-        rw (z, e) (λ j. least p (n j) (s j))
-
-    pub least_none : last + 1 ≤ x → least p (last + 1 - x) x ≡ None
-    unfolding least
-    least_none l = let z : last + 1 - x ≡ 0 = omega arith in rw z refl
-
 -- the search answers the bound
 pub bound_found : (r : Rule) (k : Task) (above : List BoundedTask) (m : ℕ) (o : Option ℕ) → bound_of r k above m ≡ o → IsBound r k above m o
 bound_found r k above m o e = subst (IsBound r k above m) e (least_found (passes_by r k above m) (r.first k above m) k.deadline)
+
+-- how many numbers a range has left
+abbrev left : RangeInclusive ℕ → ℕ
+left s = range_inclusive_left (λ x y. y - x) s
+
+left_gives : (s : RangeInclusive ℕ) → YieldsList nat_range_inclusive_steps (λ x. x) s (range_with_len (range_inclusive_start s) (left s))
+left_gives s =
+    YieldsList-from_shown nat_range_inclusive_steps (λ x. x) (λ u. range_with_len (range_inclusive_start u) (left u))
+    (λ u t h. length-range_with_len (range_inclusive_start u) (left u) ∙ h.1.0)
+    (λ u x t h. next u x t h (range_inclusive_exhausted t) refl)
+    s
+  where
+    next : (u : RangeInclusive ℕ) (x : ℕ) (t : RangeInclusive ℕ) → nat_range_inclusive_steps u (Some x) t → (b : Bool) → range_inclusive_exhausted t ≡ b → range_with_len (range_inclusive_start u) (left u) ≡ x ∷ range_with_len (range_inclusive_start t) (left t)
+    next u x t h true e =
+        let none : left t ≡ 0 = ap (range_inclusive_len (λ x y. y - x) (range_inclusive_start t) (range_inclusive_end t)) e in
+        let one : left u ≡ 1 = omega (arith, none, h.1.1) in
+        rw (one, none) (ap (λ y. y ∷ []) (sym h.1.0))
+    next u x t h false e =
+        let one : left u ≡ suc (left t) = omega (arith, h.1.1) in
+        rw one (λ j. sym h.1.0 j ∷ range_with_len (sym (h.1.2 e) j) (left t))
+
+-- a range from a to b that was not iterated yet gives these numbers
+pub range_gives : (s : RangeInclusive ℕ) (a b : ℕ) → range_inclusive_start s ≡ a → range_inclusive_end s ≡ b → range_inclusive_exhausted s ≡ false → YieldsList nat_range_inclusive_steps (λ x. x) s (range_with_len a (b + 1 - a))
+range_gives s a b from to fresh =
+    let l = ap (range_inclusive_len (λ x y. y - x) (range_inclusive_start s) (range_inclusive_end s)) fresh in
+    let n : left s ≡ b + 1 - a = omega arith in
+    subst (YieldsList nat_range_inclusive_steps (λ x. x) s) (λ j. range_with_len (from j) (n j)) (left_gives s)
+
+-- the first of the numbers that passes is the least
+pub find_least : (p : ℕ → Bool) (n x : ℕ) → find p (range_with_len x n) ≡ least p n x
+unfolding least
+find_least p zero x = refl
+find_least p (suc n) x = ap (cond (p x) (Some x)) (ap (λ y. find p (range_with_len y n)) (add-one x) ∙ find_least p n (suc x))

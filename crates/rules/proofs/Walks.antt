@@ -10,7 +10,7 @@ use Rattle.analysis.specs.declared.task.BoundedTask.{BoundedTask}
 use Rattle.analysis.specs.Interference.{all_above, taken, distinct, level_of, lawful, numbers_fit}
 use Rattle.analysis.specs.Kept.{Holds, Kept}
 use Rattle.analysis.specs.Tasks.{within_limits, bound_fits}
-use Rattle.analysis.proofs.Facts.{case_from}
+use Rattle.analysis.proofs.Facts.{lawful_case}
 use Rattle.rules.specs.Bounds.{below, rises, all_within, set_fits}
 
 abbrev pub Within : BoundedTask → Type 0
@@ -126,7 +126,7 @@ walk_from m is e =
 
 -- a task that holds has a bound that fits
 pub holds_fits : (m : ℕ) (seen : List BoundedTask) (i : BoundedTask) → within_limits i.task ≡ true → Holds m seen i → bound_fits i ≡ true
-holds_fits m seen i f h = let c = case_from _ _ _ _ h.fits in and_from _ _ f (and_from _ _ (le-leb _ _ c.low) (le-leb _ _ c.high))
+holds_fits m seen i f h = let c = lawful_case _ _ _ _ h.fits in and_from _ _ f (and_from _ _ (le-leb _ _ c.low) (le-leb _ _ c.high))
 
 -- and so on over the tasks that keep their bounds
 pub walk_on : (m : ℕ) (seen done is : List BoundedTask) → Kept m seen done → Walk m seen (done ++ is) → Walk m (seen ++ done) is

@@ -2,7 +2,7 @@
 use Rattle.std.proofs.Common.{arith}
 use Rattle.std.proofs.lemmas.Bool.{cond-true}
 use Rattle.analysis.specs.Interference.{interference, lawful}
-use Rattle.analysis.proofs.Facts.{case_from}
+use Rattle.analysis.proofs.Facts.{lawful_case}
 use Rattle.rules.specs.Rules.{LawfulRule, Starts, Covers, response, deadline}
 use Rattle.rules.specs.Standard.{rule_of}
 use Rattle.rules.specs.declared.standard_rule.StandardRule.{StandardRule}
@@ -11,10 +11,10 @@ use Rattle.rules.specs.Carrying.{all_carry_covers}
 
 -- C and D lie from C to D
 starts_at_run : Starts response
-starts_at_run k above m e = let c = case_from k above m k.deadline e in let l = c.limits in (omega arith, omega arith)
+starts_at_run k above m e = let c = lawful_case k above m k.deadline e in let l = c.limits in (omega arith, omega arith)
 
 starts_at_deadline : Starts deadline
-starts_at_deadline k above m e = let c = case_from k above m k.deadline e in let l = c.limits in (omega arith, omega arith)
+starts_at_deadline k above m e = let c = lawful_case k above m k.deadline e in let l = c.limits in (omega arith, omega arith)
 
 -- the interference is at least the interference
 counts_interference : Covers response

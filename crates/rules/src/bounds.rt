@@ -6,6 +6,7 @@ ghost use Rattle.rules.specs.Bounds.{rebound, rebound_answer, rebound_set, Rebou
 use crate::rule::CountingRule;
 use crate::search::search;
 use crate::unbounded::NoBound;
+use analysis::case::Case;
 use analysis::task::BoundedTask;
 
 /// Works out the bound of each task from a place on, most urgent first, with the bounds just found. The first task that has
@@ -21,14 +22,16 @@ pub fn rebound<R: CountingRule>(
     ensures bounds { Rebounded (R.CountingRule.rule rule.now) cores (take from set.old) (drop from set.old) (rebound (R.CountingRule.rule rule.now) cores (take from set.old) (drop from set.old)) }
     ensures kept { set_fits cores set.old ≡ true → Kept cores [] (take from set.old) → is_ok result ≡ true → Kept cores [] set.new }
 {
+    // Stays: each turn reads the tasks before the place and writes the one there, which no iterator lends together.
     for place in from..set.len() {
         let task = set[place].task;
-        let Some(bound) = search(rule, &task, &set[0..place], cores) else {
-            return Err(NoBound {
-                place,
-                level: task.level,
-            });
+        let case = Case {
+            task: &task,
+            above: &set[..place],
+            cores,
         };
+        let level = task.level;
+        let bound = search(rule, &case).ok_or(NoBound { place, level })?;
         set[place].bound = bound;
     }
     Ok(())

@@ -3,17 +3,15 @@ ghost use Rattle.std.specs.Prelude.{◌≡◌};
 ghost use Rattle.analysis.specs.Counting.{Countable};
 ghost use Rattle.rules.specs.Rules.{all_carried};
 
-use analysis::task::{BoundedTask, Task};
-use analysis::work;
+use analysis::case::Case;
 
 /// The carried amounts of the tasks above, added up.
-pub(crate) fn sum_carried(task: &Task, above: &[BoundedTask], window: u16) -> u32
-    requires { Countable task.now window above.now }
-    ensures { result ≡ all_carried task.now above.now window }
+pub(crate) fn sum_carried(case: &Case, window: u16) -> u32
+    requires { Countable case.now.task.now window case.now.above.now }
+    ensures { result ≡ all_carried case.now.task.now case.now.above.now window }
 {
-    let mut sum = 0;
-    for other in above {
-        sum += work::carried(task, window, other);
-    }
-    sum
+    case.above
+        .iter()
+        .map(|other| case.task.carried(window, other))
+        .sum()
 }

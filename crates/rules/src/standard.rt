@@ -1,5 +1,4 @@
 // The choice among the three rules.
-ghost use Rattle.std.specs.Prelude.{◌≡◌};
 ghost use Rattle.rules.specs.Standard.{rule_of};
 ghost use Rattle.rules.specs.Lawful.{standard_lawful};
 
@@ -8,29 +7,28 @@ use crate::deadline::DeadlineRule;
 use crate::response::ResponseRule;
 use crate::rule::CountingRule;
 use crate::standard_rule::StandardRule;
-use analysis::task::{BoundedTask, Task};
+use analysis::case::Case;
 
 /// Counts as the rule that is named.
 impl CountingRule for StandardRule {
     ghost rule = { rule_of };
 
-    ghost starts = { λ r. (standard_lawful r).starts };
+    ghost laws = { standard_lawful };
 
-    ghost covers = { λ r. (standard_lawful r).covers };
-
-    fn first_window(&self, task: &Task, above: &[BoundedTask], cores: u8) -> u16 {
+    // Stays: one place that picks the rule would hand out a dyn value, so each method asks the rule that is named.
+    fn first_window(&self, case: &Case) -> u16 {
         match self {
-            StandardRule::Response => ResponseRule.first_window(task, above, cores),
-            StandardRule::Deadline => DeadlineRule.first_window(task, above, cores),
-            StandardRule::AllCarry => AllCarryRule.first_window(task, above, cores),
+            StandardRule::Response => ResponseRule.first_window(case),
+            StandardRule::Deadline => DeadlineRule.first_window(case),
+            StandardRule::AllCarry => AllCarryRule.first_window(case),
         }
     }
 
-    fn total(&self, task: &Task, above: &[BoundedTask], cores: u8, window: u16) -> u32 {
+    fn total(&self, case: &Case, window: u16) -> u32 {
         match self {
-            StandardRule::Response => ResponseRule.total(task, above, cores, window),
-            StandardRule::Deadline => DeadlineRule.total(task, above, cores, window),
-            StandardRule::AllCarry => AllCarryRule.total(task, above, cores, window),
+            StandardRule::Response => ResponseRule.total(case, window),
+            StandardRule::Deadline => DeadlineRule.total(case, window),
+            StandardRule::AllCarry => AllCarryRule.total(case, window),
         }
     }
 }

@@ -7,7 +7,7 @@ use Rattle.analysis.specs.declared.task.Task.{Task}
 use Rattle.analysis.specs.declared.task.BoundedTask.{BoundedTask}
 use Rattle.analysis.specs.Interference.{extra, interference, level_of, passes, taken}
 use Rattle.analysis.specs.Work.{amount, cap, plain}
-use Rattle.analysis.proofs.Facts.{Above, Case}
+use Rattle.analysis.proofs.Facts.{Above, LawfulCase}
 use Rattle.analysis.proofs.Largest.{largest_best, chosen_best}
 use Rattle.schedule.specs.Legal.{Legal}
 use Rattle.schedule.specs.Levels.{at_level, run_at, gap_at, bound_at}
@@ -81,7 +81,7 @@ module _ (m : ℕ) (set : List BoundedTask) (start now : ℕ) (s : Schedule) (le
       (λ (h : s.there t i ≡ false). h)
       (cases_Bool (s.there t i))
 
-  module _ (k : BoundedTask) (above : List BoundedTask) (case : Case k.task above m k.bound) (tested : passes k.task m k.bound (interference k.task above m k.bound) ≡ true) (stands : at_level (level_of k) set ≡ k) (known : AllByRecursion (Known set now s) above) (empty : (u : ℕ) → u < level_of k → taken level_of u above ≡ false → run_at set u ≡ 0) where
+  module _ (k : BoundedTask) (above : List BoundedTask) (case : LawfulCase k.task above m k.bound) (tested : passes k.task m k.bound (interference k.task above m k.bound) ≡ true) (stands : at_level (level_of k) set ≡ k) (known : AllByRecursion (Known set now s) above) (empty : (u : ℕ) → u < level_of k → taken level_of u above ≡ false → run_at set u ≡ 0) where
     never_late : (t : ℕ) → t ≤ now → s.there t (level_of k) ≡ true → s.since t (level_of k) + k.bound ≤ t → ⊥
     never_late t n here late =
         let l = level_of k in

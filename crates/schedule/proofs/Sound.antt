@@ -6,7 +6,7 @@ use Rattle.std.specs.List.{AllByRecursion}
 use Rattle.analysis.specs.declared.task.BoundedTask.{BoundedTask}
 use Rattle.analysis.specs.Interference.{level_of, taken}
 use Rattle.analysis.specs.Kept.{Kept}
-use Rattle.analysis.proofs.Facts.{Above, Case, case_from}
+use Rattle.analysis.proofs.Facts.{Above, LawfulCase, lawful_case}
 use Rattle.schedule.specs.Legal.{Legal}
 use Rattle.schedule.specs.Levels.{at_level, run_at}
 use Rattle.schedule.specs.Running.{slots_between}
@@ -16,26 +16,26 @@ use Rattle.schedule.proofs.ByLevel.{taken_append, taken_push, taken_last, taken_
 use Rattle.schedule.proofs.Interfering.{Known, keeps_bound}
 
 -- a kept task is less urgent than those above it
-below : (m : ℕ) (above : List BoundedTask) (i : BoundedTask) → Case i.task above m i.bound → AllByRecursion (λ j. level_of j < level_of i) above
+below : (m : ℕ) (above : List BoundedTask) (i : BoundedTask) → LawfulCase i.task above m i.bound → AllByRecursion (λ j. level_of j < level_of i) above
 below m above i case = All-weaker (Above i.task) (λ j. level_of j < level_of i) (λ j a. a.urgent) above case.each
 
 -- the tasks after one are less urgent
 later : (m l : ℕ) (above is : List BoundedTask) → taken level_of l above ≡ true → Kept m above is → AllByRecursion (λ j. l < level_of j) is
 later m l above [] e k = tt
 later m l above (i ∷ is) e k =
-    (taken_below l (level_of i) above (below m above i (case_from i.task above m i.bound k.0.fits)) e, later m l (above ++ i ∷ []) is (taken_push l above i e) k.1)
+    (taken_below l (level_of i) above (below m above i (lawful_case i.task above m i.bound k.0.fits)) e, later m l (above ++ i ∷ []) is (taken_push l above i e) k.1)
 
 -- the bounds are within the deadlines
 within : (m : ℕ) (above is : List BoundedTask) → Kept m above is → AllByRecursion (λ i. i.bound ≤ i.task.deadline) is
 within m above [] k = tt
-within m above (i ∷ is) k = ((case_from i.task above m i.bound k.0.fits).high, within m (above ++ i ∷ []) is k.1)
+within m above (i ∷ is) k = ((lawful_case i.task above m i.bound k.0.fits).high, within m (above ++ i ∷ []) is k.1)
 
 module _ (m : ℕ) (set : List BoundedTask) (start now : ℕ) (s : Schedule) (legal : Legal m set start now s) where
   walk : (above is : List BoundedTask) → above ++ is ≡ set → Kept m above is → AllByRecursion (Known set now s) above → AllByRecursion (Known set now s) is
   walk above [] e k a = tt
   walk above (i ∷ is) e k a =
       let l = level_of i in
-      let case = case_from i.task above m i.bound k.0.fits in
+      let case = lawful_case i.task above m i.bound k.0.fits in
       let stands : at_level l set ≡ i = ap (at_level l) (sym e) ∙ at_level_here above is i (not_below l above (below m above i case)) in
       let empty : (u : ℕ) → u < l → taken level_of u above ≡ false → run_at set u ≡ 0 = λ u b t.
       let after = All-weaker (λ j. l < level_of j) (λ j. u < level_of j) (λ j c. omega arith) is (later m l (above ++ i ∷ []) is (taken_last above i) k.1) in

@@ -3,20 +3,15 @@ ghost use Rattle.std.specs.Prelude.{◌≡◌, true, []};
 ghost use Rattle.analysis.specs.Kept.{Holds, Kept};
 ghost use Rattle.schedule.specs.Soundness.{Punctual};
 
-use analysis::count::{passes, total};
-use analysis::lawful::is_lawful;
+use analysis::case::Case;
 use analysis::task::BoundedTask;
 
-// Whether the task's bound is lawful and passes the window test against the tasks above it.
-fn holds(task: &BoundedTask, above: &[BoundedTask], cores: u8) -> bool
-    ensures yes { result ≡ true → Holds cores above.now task.now }
-    ensures whenever { Holds cores above.now task.now → result ≡ true }
+// Whether the bound of the task is lawful and passes the window test against the tasks above it.
+fn holds(case: &Case, bound: u16) -> bool
+    ensures yes { result ≡ true → Holds case.now.cores case.now.above.now (record { task = case.now.task.now; bound = bound }) }
+    ensures whenever { Holds case.now.cores case.now.above.now (record { task = case.now.task.now; bound = bound }) → result ≡ true }
 {
-    if !is_lawful(&task.task, above, cores, task.bound) {
-        return false;
-    }
-    let total = total(&task.task, above, cores, task.bound);
-    passes(&task.task, cores, task.bound, total)
+    case.is_lawful(bound) && case.passes(bound, case.total(bound))
 }
 
 /// Whether every bound of a set, most urgent task first, is lawful and passes the window test. Then no legal schedule on
@@ -26,10 +21,12 @@ pub fn keeps_bounds(cores: u8, set: &[BoundedTask]) -> bool
     ensures whenever { Kept cores [] set.now → result ≡ true }
     ensures punctual { result ≡ true → Punctual cores set.now }
 {
-    for (i, task) in set.iter().enumerate() {
-        if !holds(task, &set[0..i], cores) {
-            return false;
-        }
-    }
-    true
+    set.iter().enumerate().all(|(place, bounded)| {
+        let case = Case {
+            task: &bounded.task,
+            above: &set[..place],
+            cores,
+        };
+        holds(&case, bounded.bound)
+    })
 }

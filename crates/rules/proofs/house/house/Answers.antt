@@ -1,6 +1,5 @@
-use Rattle.std.proofs.Common.{rules}
 use Rattle.rules.proofs.Examples.{examples}
 use Rattle.rules.proofs.house.house.Goals as goal
 
-pub returns : goal.returns
-returns c = record { tasks = search rules; examples = examples }
+pub returns-clause-examples : goal.returns-clause-examples
+returns-clause-examples c = examples

@@ -1,6 +1,5 @@
-use Rattle.std.proofs.Common.{refl}
 use Rattle.schedule.proofs.Worked.{crowded_facts}
 use Rattle.schedule.proofs.examples.crowded_set.Goals as goal
 
-pub returns : goal.returns
-returns c = record { value = refl; crowded = crowded_facts }
+pub returns-clause-crowded : goal.returns-clause-crowded
+returns-clause-crowded c = crowded_facts
