@@ -4,6 +4,7 @@ use queues::level::Level;
 use queues::wake_up::WakeUp;
 
 /// An item kind that can be drawn at random.
+// Stays: no plainer, since a `From<u64>` of an item can stand in crate `queues` alone, which draws nothing.
 pub trait Sample {
     /// The item for a number: few enough that the same one is drawn again.
     fn of(number: u64) -> Self;
@@ -28,7 +29,7 @@ impl Sample for WakeUp {
     fn of(number: u64) -> WakeUp {
         WakeUp {
             tick: 1_099_511_687_776 - number / 64 % 16,
-            level: (number % 64) as u8,
+            level: Level::of(number).number,
         }
     }
 
@@ -41,11 +42,11 @@ impl Sample for Extra {
     fn of(number: u64) -> Extra {
         Extra {
             amount: (number / 64 % 16) as u32,
-            level: (number % 64) as u8,
+            level: Level::of(number).number,
         }
     }
 
     fn code(&self) -> u64 {
-        (4_294_967_295 - self.amount as u64) * 64 + self.level as u64
+        (u32::MAX - self.amount) as u64 * 64 + self.level as u64
     }
 }
