@@ -3,3 +3,4 @@ pub mod Admitted
 pub mod Plans
 pub mod Published
 pub mod Refusals
+pub mod Texts

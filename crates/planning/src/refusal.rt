@@ -1,6 +1,9 @@
 // Why a task set is refused.
-ghost use Rattle.std.specs.Prelude.{◌≡◌};
+ghost use Rattle.std.specs.Prelude.{◌≡◌, Some};
 ghost use Rattle.planning.specs.Refusals.{number};
+ghost use Rattle.planning.specs.Texts.{reason_text};
+
+use std::fmt;
 
 /// Why a task set is refused; each tells the level of the task that is to blame.
 #[derive(Clone, Copy, PartialEq, Eq, Debug)]
@@ -29,6 +32,22 @@ impl Refusal {
             Refusal::LevelTaken(_) => 3,
             Refusal::TooManyTasks(_) => 4,
             Refusal::NoBound(_) => 6,
+        }
+    }
+}
+
+impl fmt::Display for Refusal {
+    ghost output = { λ refusal. Some (reason_text refusal) };
+
+    fn fmt<W: fmt::Write>(&self, f: &mut fmt::Formatter<W>) -> fmt::Result {
+        match *self {
+            Refusal::BadLevel(level) => write!(f, "level {level} is above 63"),
+            Refusal::BadTiming(level) => {
+                write!(f, "level {level} breaks 1 <= C <= D <= T <= 60000")
+            }
+            Refusal::LevelTaken(level) => write!(f, "level {level} has a task already"),
+            Refusal::TooManyTasks(level) => write!(f, "level {level} comes after 32 tasks"),
+            Refusal::NoBound(level) => write!(f, "level {level} has no bound"),
         }
     }
 }

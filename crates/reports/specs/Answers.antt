@@ -6,7 +6,8 @@ use Rattle.planning.specs.declared.refusal.Refusal.{Refusal}
 use Rattle.sheets.specs.declared.entry.Fault.{Fault}
 use Rattle.reports.specs.declared.reply.Answer.{Answer}
 use Rattle.sheets.specs.Reading.{Page}
-use Rattle.reports.specs.Report.{report_text, fault_text, line_feed}
+use Rattle.sheets.specs.Texts.{fault_text}
+use Rattle.reports.specs.Report.{report_text, line_feed}
 
 abbrev pub accepted : Result (Unit {0}) Refusal → Bool
 accepted v = is_ok v

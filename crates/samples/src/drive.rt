@@ -1,106 +1,120 @@
-// One queue beside a sorted set of the standard library.
+// Queues, each beside a sorted set of the standard library.
+use crate::call::Call;
 use crate::item::Sample;
 use crate::rng::Rng;
-use crate::tally::{Tally, tick};
-use anyhow::anyhow;
-use queues::order::Order;
+use crate::tally::Tally;
+use anyhow::ensure;
+use fronts::front::Front;
 use queues::placed::Placed;
-use queues::queue::{Queue, WithdrawingQueue};
-use std::alloc::Global;
+use queues::queue::WithdrawingQueue;
+use std::alloc::{AllocError, Global};
 use std::collections::BTreeSet;
 
 const STEPS: u32 = 8_000;
 
-fn agree(same: bool) -> anyhow::Result<()> {
-    if same {
+// A queue whose capacity is to be `room`, and the model of its set.
+#[derive(Drop)]
+struct Pair<'a, W> {
+    queue: &'a mut W,
+    model: BTreeSet<u64>,
+    room: usize,
+}
+
+impl<W: WithdrawingQueue> Pair<'_, W>
+where
+    W::Item: Sample + Copy,
+{
+    // Puts the item into both, and says whether they agree.
+    fn put(&mut self, item: W::Item) -> Result<bool, AllocError> {
+        let code = item.code();
+        let held = self.model.contains(&code);
+        let full = self.model.len() >= self.room;
+        match self.queue.put(item) {
+            Placed::Held => Ok(held),
+            Placed::Full => Ok(!held && full),
+            Placed::Added => Ok(self.model.insert(code)? && !full),
+        }
+    }
+
+    // Makes a call on both, and says whether they agree.
+    fn make(&mut self, call: Call, item: W::Item) -> Result<bool, AllocError> {
+        let model = &mut self.model;
+        match call {
+            Call::Clear => {
+                self.queue.clear();
+                model.clear();
+                Ok(true)
+            }
+            Call::Capacity => Ok(self.queue.capacity() as usize == self.room),
+            Call::Count => Ok(self.queue.count() as usize == model.len()),
+            Call::First => {
+                Ok(self.queue.first().map(|item| item.code()) == model.first().copied())
+            }
+            Call::Take => Ok(self.queue.take().map(|item| item.code()) == model.pop_first()),
+            Call::Put => self.put(item),
+            Call::Withdraw => Ok(self.queue.withdraw(item) == model.remove(&item.code())),
+        }
+    }
+}
+
+/// Drives queues, and counts the calls.
+#[derive(Clone, Copy)]
+pub(crate) struct Driver {
+    pub(crate) heap: Global,
+    pub(crate) tally: Tally,
+}
+
+impl Driver {
+    // Makes a call with the item for a number.
+    fn call<W: WithdrawingQueue>(
+        &mut self,
+        pair: &mut Pair<'_, W>,
+        call: Call,
+        number: u64,
+    ) -> anyhow::Result<()>
+    where
+        W::Item: Sample + Copy,
+    {
+        self.tally.add(call);
+        let item = <W::Item as Sample>::of(number);
+        ensure!(pair.make(call, item)?, "a queue and the model disagree");
         Ok(())
-    } else {
-        Err(anyhow!("a queue and the model disagree"))
     }
-}
 
-// The code of an item, or none.
-fn code_of<T: Sample + Drop>(item: Option<T>) -> Option<u64> {
-    match item {
-        Some(item) => Some(item.code()),
-        None => None,
+    /// Clears the queue, and makes a long row of calls on it and on the model; its capacity is to be `room`.
+    pub(crate) fn drive<W: WithdrawingQueue>(
+        &mut self,
+        queue: &mut W,
+        room: usize,
+    ) -> anyhow::Result<()>
+    where
+        W::Item: Sample + Copy,
+    {
+        let mut rng = Rng::new(20_261_117);
+        let model = BTreeSet::new(self.heap);
+        let mut pair = Pair { queue, model, room };
+        self.tally.stacks = self.tally.stacks.saturating_add(1);
+        for n in 0..STEPS {
+            if n % 1_000 == 0 {
+                self.call(&mut pair, Call::Clear, 0)?;
+            }
+            let roll = rng.roll();
+            self.call(&mut pair, Call::from(roll), roll / 16)?;
+        }
+        Ok(())
     }
-}
 
-// Puts the item into both.
-fn put<T: Sample + Order + Copy, W: WithdrawingQueue + Queue<Item = T>>(
-    queue: &mut W,
-    model: &mut BTreeSet<u64>,
-    room: usize,
-    item: T,
-) -> anyhow::Result<()> {
-    let code = item.code();
-    let held = model.contains(&code);
-    let full = model.len() >= room;
-    match queue.put(item) {
-        Placed::Held => agree(held),
-        Placed::Full => agree(!held && full),
-        Placed::Added => {
-            let new = model.insert(code)?;
-            agree(new && !full)
-        }
+    /// Drives the queue, and then a front on it.
+    pub(crate) fn drive_with_front<W: WithdrawingQueue + Drop>(
+        &mut self,
+        mut queue: W,
+        room: usize,
+    ) -> anyhow::Result<()>
+    where
+        W::Item: Sample + Copy,
+    {
+        self.drive(&mut queue, room)?;
+        let mut front = Front::new(queue);
+        self.drive(&mut front, room.saturating_add(1))
     }
-}
-
-// One call of the kind that the number says.
-fn step<T: Sample + Order + Copy, W: WithdrawingQueue + Queue<Item = T>>(
-    queue: &mut W,
-    model: &mut BTreeSet<u64>,
-    room: usize,
-    roll: u64,
-    tally: &mut Tally,
-) -> anyhow::Result<()> {
-    let item = T::of(roll / 16);
-    match roll % 16 {
-        0 => {
-            tick(&mut tally.capacity);
-            agree(queue.capacity() as usize == room)
-        }
-        1 => {
-            tick(&mut tally.count);
-            agree(queue.count() as usize == model.len())
-        }
-        2 | 3 => {
-            tick(&mut tally.first);
-            agree(code_of(queue.first()) == model.first().copied())
-        }
-        4 | 5 => {
-            tick(&mut tally.take);
-            agree(code_of(queue.take()) == model.pop_first())
-        }
-        6..=8 => {
-            tick(&mut tally.withdraw);
-            agree(queue.withdraw(item) == model.remove(&item.code()))
-        }
-        _ => {
-            tick(&mut tally.put);
-            put(queue, model, room, item)
-        }
-    }
-}
-
-/// Clears the queue, and makes a long row of calls on it and on the model; its capacity is to be `room`.
-pub(crate) fn drive<T: Sample + Order + Copy, W: WithdrawingQueue + Queue<Item = T>>(
-    heap: Global,
-    queue: &mut W,
-    room: usize,
-    tally: &mut Tally,
-) -> anyhow::Result<()> {
-    let mut rng = Rng::new(20_261_117);
-    let mut model = BTreeSet::new(heap);
-    tick(&mut tally.stacks);
-    for n in 0..STEPS {
-        if n % 1_000 == 0 {
-            tick(&mut tally.clear);
-            queue.clear();
-            model.clear();
-        }
-        step(queue, &mut model, room, rng.roll(), tally)?;
-    }
-    Ok(())
 }

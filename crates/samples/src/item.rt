@@ -4,6 +4,7 @@ use queues::level::Level;
 use queues::wake_up::WakeUp;
 
 /// An item kind that can be drawn at random.
+// Stays: no plainer, since a `From<u64>` of an item can stand in crate `queues` alone, which draws nothing.
 pub trait Sample {
     /// The item for a number: few enough that the same one is drawn again.
     fn of(number: u64) -> Self;
@@ -46,6 +47,6 @@ impl Sample for Extra {
     }
 
     fn code(&self) -> u64 {
-        (4_294_967_295 - u64::from(self.amount)) * 64 + u64::from(self.level.number)
+        u64::from(u32::MAX - self.amount) * 64 + u64::from(self.level.number)
     }
 }

@@ -1,68 +1,54 @@
 // How many calls of each kind were made.
+use crate::call::Call;
 use std::fmt;
 
-/// The calls of each kind.
-#[derive(Clone, Copy)]
+/// The stacks of queues that were driven, and the calls of each kind.
+#[derive(Clone, Copy, Default)]
 pub struct Tally {
     pub stacks: u64,
-    pub clear: u64,
-    pub capacity: u64,
-    pub count: u64,
-    pub first: u64,
-    pub take: u64,
-    pub put: u64,
-    pub withdraw: u64,
+    clear: u64,
+    capacity: u64,
+    count: u64,
+    first: u64,
+    take: u64,
+    put: u64,
+    withdraw: u64,
 }
 
 impl Tally {
-    pub(crate) fn new() -> Tally {
-        Tally {
-            stacks: 0,
-            clear: 0,
-            capacity: 0,
-            count: 0,
-            first: 0,
-            take: 0,
-            put: 0,
-            withdraw: 0,
-        }
+    /// One more call of this kind.
+    pub(crate) fn add(&mut self, call: Call) {
+        let calls = match call {
+            Call::Clear => &mut self.clear,
+            Call::Capacity => &mut self.capacity,
+            Call::Count => &mut self.count,
+            Call::First => &mut self.first,
+            Call::Take => &mut self.take,
+            Call::Put => &mut self.put,
+            Call::Withdraw => &mut self.withdraw,
+        };
+        *calls = calls.saturating_add(1);
     }
-
-    /// All calls.
-    pub(crate) fn calls(&self) -> u64 {
-        let asks = self
-            .capacity
-            .saturating_add(self.count)
-            .saturating_add(self.first);
-        let changes = self
-            .clear
-            .saturating_add(self.take)
-            .saturating_add(self.put)
-            .saturating_add(self.withdraw);
-        asks.saturating_add(changes)
-    }
-}
-
-/// One more.
-pub(crate) fn tick(counter: &mut u64) {
-    *counter = counter.saturating_add(1);
 }
 
 impl fmt::Display for Tally {
     fn fmt<W: fmt::Write>(&self, f: &mut fmt::Formatter<W>) -> fmt::Result {
-        let stacks = self.stacks;
-        let calls = self.calls();
-        let clear = self.clear;
-        let capacity = self.capacity;
-        let count = self.count;
-        let first = self.first;
+        let Tally {
+            stacks,
+            clear,
+            capacity,
+            count,
+            first,
+            take,
+            put,
+            withdraw,
+        } = *self;
+        let calls = [clear, capacity, count, first, take, put, withdraw]
+            .iter()
+            .fold(0u64, |sum, calls| sum.saturating_add(*calls));
         write!(
             f,
-            "{stacks} stacks, {calls} calls: clear {clear}, capacity {capacity}, count {count}, first {first}"
-        )?;
-        let take = self.take;
-        let put = self.put;
-        let withdraw = self.withdraw;
-        write!(f, ", take {take}, put {put}, withdraw {withdraw}")
+            "{stacks} stacks, {calls} calls: clear {clear}, capacity {capacity}, count {count}, first {first}, take {take}, put {put}, withdraw {withdraw}"
+        )
     }
 }

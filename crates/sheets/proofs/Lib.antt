@@ -1,6 +1,5 @@
 pub mod Digits
 pub mod Faultless
 pub mod Pieces
-pub mod Said
 pub mod Sofar
 pub mod Told

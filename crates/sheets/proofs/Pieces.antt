@@ -1,15 +1,13 @@
 -- Pieces that lack a byte and give a text back, with that byte between them, are what stands between those bytes.
-use Rattle.std.proofs.Common.{◌≡◌, ℕ, suc, ◌+◌, ◌<◌, ◌≤◌, true, false, cond, eqb, List, [], ◌∷◌, ◌++◌, length, get_or, take, is_ok, IfOk, Ok, Err, vec_items, vec_len, filter, Option, Result, Vec, sym, refl, ap, ◌∙◌, append-nil, arith, Bor}
+use Rattle.std.proofs.Common.{◌≡◌, ℕ, suc, ◌<◌, true, eqb, List, [], ◌∷◌, ◌++◌, length, not, IfOk, Ok, Err, vec_items, vec_len, filter, Option, Result, Vec, sym, refl, ap, ◌∙◌, arith, Bor}
 use lib.ListN.{length-map}
 use Rattle.std.specs.Str.Iter.{LacksByte, IsSplitnRun, CutsAtEveryByte}
 use Rattle.std.specs.List.{join_with_byte, AllByRecursion}
-use Rattle.std.specs.Iterator.Runs.{Run, WholeRun, EachRunFrom}
+use Rattle.std.specs.Iterator.Runs.{Run, SomeRun, WholeRun, EachRunFrom}
 use Rattle.std.proofs.iter.runs.Lists.{Everywhere}
 use Rattle.std.proofs.iter.runs.Made.{seen, each_of}
-use Rattle.std.proofs.lemmas.List.Elements.{filter_more}
-use Rattle.std.proofs.lemmas.List.{map_push, get_or-map, take_all}
-use Rattle.std.proofs.lemmas.Bool.{cond-true, cond-false, eq-eqb, ne_eqb, eqb-true, eqb-false}
-use Rattle.sheets.specs.Words.{texts, onto, pieces, filled, words}
+use Rattle.std.proofs.lemmas.Bool.{cond-true, cond-false, eq-eqb, ne_eqb}
+use Rattle.sheets.specs.Words.{texts, onto, pieces, filled}
 
 lacks_rest : (c x : ℕ) (xs : List ℕ) → LacksByte c (x ∷ xs) → LacksByte c xs
 lacks_rest c x xs h k l = h (suc k) (omega arith)
@@ -36,6 +34,16 @@ all_lack : (c : ℕ) (ss : List (Bor (List ℕ))) → Everywhere ss (λ s. Lacks
 all_lack c [] h = tt
 all_lack c (s ∷ ss) h = (h 0, all_lack c ss (λ k. h (suc k)))
 
+-- what is kept of some pieces
+filled_by_length : (w : List ℕ) → not (eqb (length w) 0) ≡ filled w
+filled_by_length [] = ap not (eq-eqb 0 0 refl)
+filled_by_length (x ∷ w) = ap not (ne_eqb (length (x ∷ w)) 0 (λ e. omega arith))
+
+kept_texts : (ss : List (Bor (List ℕ))) → texts (filter (λ s. not (eqb (length s.now) 0)) ss) ≡ filter filled (texts ss)
+kept_texts [] = refl
+kept_texts (s ∷ ss) =
+    let e = kept_texts ss in let f = filled_by_length s.now in rw (← f, ← e) (grind arith)
+
 -- what `collect` makes of a `split` at an ASCII character
 module _ {S : Type 0} {steps : S → Option (Bor (List ℕ)) → S → Type 0} (c : ℕ) (bs : List ℕ) (s : S)
     (cuts : EachRunFrom steps s (λ u. (u.whole ≡ true → 0 < u.len) × (IsSplitnRun u bs c × CutsAtEveryByte u bs c))) where
@@ -45,42 +53,17 @@ module _ {S : Type 0} {steps : S → Option (Bor (List ℕ)) → S → Type 0} (
       let some : 0 < length (texts p.items) = omega (arith, cut.0 whole, p.long, length-map p.items (λ s. s.now)) in
       sym (pieces_rejoined c (texts p.items) some (all_lack c p.items (each_of p (λ x. LacksByte c x.now) cut.1.1.0))) ∙ ap (pieces c) (sym (cut.1.0.2 whole))
 
+  -- of a run that keeps the pieces which are not empty
+  pub collected_words : {K Z E : Type 0} {keeps : K → Option (Bor (List ℕ)) → K → Type 0} (k : K) (r : Result (Vec (Bor (List ℕ)) Z) E)
+      → EachRunFrom keeps k (λ p. SomeRun steps s (λ q. (q.whole ≡ p.whole) × (p.items ≡ filter (λ x. not (eqb (length x.now) 0)) q.items)))
+      → IfOk r (λ v. Unit {0} → WholeRun keeps k (λ p. (vec_items v ≡ p.items) × (vec_len v ≡ length p.items)))
+      → IfOk r (λ v. texts (vec_items v) ≡ filter filled (pieces c bs))
+  collected_words k (Ok v) kept h =
+      let got = h tt in
+      let from = kept got.0 (seen got.0.len) got.1 in
+      ap texts (got.3.0 ∙ from.2.1) ∙ kept_texts from.0.items ∙ ap (filter filled) (run_pieces from.0 from.1 (from.2.0 ∙ got.2))
+  collected_words k (Err e) kept h = tt
+
   pub collected_pieces : {Z E : Type 0} (r : Result (Vec (Bor (List ℕ)) Z) E) → IfOk r (λ v. Unit {0} → WholeRun steps s (λ p. (vec_items v ≡ p.items) × (vec_len v ≡ length p.items))) → IfOk r (λ v. texts (vec_items v) ≡ pieces c bs)
   collected_pieces (Ok v) h = let got = h tt in ap texts got.3.0 ∙ run_pieces got.0 got.1 got.2
   collected_pieces (Err e) h = tt
-
-filled_some : (w : List ℕ) → eqb (length w) 0 ≡ false → filled w ≡ true
-filled_some [] e = absurd (eqb-false 0 0 e refl)
-filled_some (x ∷ w) e = refl
-
-filled_none : (w : List ℕ) → eqb (length w) 0 ≡ true → filled w ≡ false
-filled_none [] e = refl
-filled_none (x ∷ w) e = absurd (omega (arith, eqb-true (length (x ∷ w)) 0 e))
-
--- what a read past the end gives
-abbrev pub no_text : Bor (List ℕ)
-no_text = record { ref_ptr = (0, 0); now = [] }
-
--- one piece more: what is kept of it
-module _ (ss : List (Bor (List ℕ))) (i : ℕ) (fs : List (Bor (List ℕ)))
-    (within : i < length ss) (sofar : texts fs ≡ filter filled (take i (texts ss))) where
-  kept_next : filter filled (take (i + 1) (texts ss)) ≡ texts fs ++ cond (filled (get_or ss i no_text).now) ((get_or ss i no_text).now ∷ []) []
-  kept_next =
-      filter_more filled (texts ss) i [] (omega (arith, length-map ss (λ s. s.now)))
-      ∙ ap (λ (w : List ℕ). filter filled (take i (texts ss)) ++ cond (filled w) (w ∷ []) []) (get_or-map (λ s. s.now) ss i no_text [] within)
-      ∙ ap (λ l. l ++ cond (filled (get_or ss i no_text).now) ((get_or ss i no_text).now ∷ []) []) (sym sofar)
-
-  -- gs is what a push onto fs made
-  pub word_kept : {T E : Type 0} (r : Result T E) (u : T) (gs : List (Bor (List ℕ))) → eqb (length (get_or ss i no_text).now) 0 ≡ false → r ≡ Ok u → gs ≡ cond (is_ok r) (fs ++ get_or ss i no_text ∷ []) fs → texts gs ≡ filter filled (take (i + 1) (texts ss))
-  word_kept r u gs some IfOk e =
-      ap texts (e ∙ cond-true _ _ _ (ap is_ok IfOk)) ∙ map_push (λ s. s.now) fs (get_or ss i no_text)
-      ∙ ap (λ l. texts fs ++ l) (sym (cond-true _ _ _ (filled_some _ some))) ∙ sym kept_next
-
-  pub word_passed : eqb (length (get_or ss i no_text).now) 0 ≡ true → texts fs ≡ filter filled (take (i + 1) (texts ss))
-  word_passed none =
-      sym (append-nil (texts fs)) ∙ ap (λ l. texts fs ++ l) (sym (cond-false _ _ _ (filled_none _ none))) ∙ sym kept_next
-
--- after the last piece
-pub words_all : (ss fs : List (Bor (List ℕ))) (i : ℕ) (line : List ℕ) → length ss ≤ i → texts ss ≡ pieces 32 line → texts fs ≡ filter filled (take i (texts ss)) → texts fs ≡ words line
-words_all ss fs i line past cut sofar =
-    sofar ∙ ap (filter filled) (take_all i (texts ss) (omega (arith, length-map ss (λ s. s.now))) ∙ cut)

@@ -1,5 +1,5 @@
 -- What one line more tells, and that no line tells more than 8 cores.
-use Rattle.std.proofs.Common.{◌≡◌, ℕ, ◌≤◌, Bool, true, false, cond, ◌&&◌, eqb, ltb, leb, List, [], ◌∷◌, ◌++◌, length, get_or, Ok, Err, codes, Result, sym, refl, ap, ◌∙◌, subst}
+use Rattle.std.proofs.Common.{◌≡◌, ℕ, ◌≤◌, Bool, true, false, cond, ◌&&◌, eqb, ltb, leb, List, [], ◌∷◌, ◌++◌, length, get_or, Ok, Err, codes, Result, sym, refl, ap, ◌∙◌}
 use Rattle.std.specs.Str.{bytes_eq}
 use Rattle.std.proofs.lemmas.List.{flat_map_more}
 use Rattle.std.proofs.lemmas.Bool.{and_parts, leb-true}
@@ -10,12 +10,19 @@ use Rattle.sheets.specs.declared.entry.Fault.{Fault}
 use Rattle.sheets.specs.declared.entry.Fault.TheVariants.{BadCores, CoresTwice, RuleTwice}
 use Rattle.sheets.specs.declared.reading.ReadError.{ReadError}
 use Rattle.sheets.specs.declared.reading.ReadError.TheVariants.{Memory, Line}
-use Rattle.sheets.specs.Drafts.{CoresFit, fault_after, Grown, Put, Holds, Entered}
+use Rattle.sheets.specs.Drafts.{fault_after, Grown, Put, Holds, Entered}
 use Rattle.sheets.specs.Lines.{and_then, number_of, counted, words_entry, line_entry}
 use Rattle.sheets.specs.Reading.{cores_told, rule_told, task_told, all_cores, all_rules, all_tasks, again, fault_of}
 use Rattle.std.proofs.ByRecursion.{All-append}
 use Rattle.std.specs.List.{AllByRecursion}
 use Rattle.sheets.specs.Words.{words}
+
+-- no line tells fewer than 1 core or more than 8
+abbrev CoresFit : Entry → Type 0
+CoresFit entry.Blank = Unit {0}
+CoresFit (entry.Cores n) = (1 ≤ n) × (n ≤ 8)
+CoresFit (entry.Rule r) = Unit {0}
+CoresFit (entry.Task k) = Unit {0}
 
 -- the entry fits, if there is one
 abbrev FitIn : Result Entry Fault → Type 0
@@ -43,9 +50,6 @@ words_fit (w ∷ ws) =
     either_fits (bytes_eq w (codes "cores")) _ _ (counted_fits 1 ws _ (then_fits (number_of (get_or ws 0 [])) _ (λ n. cores_fit n _ refl)))
     (either_fits (bytes_eq w (codes "rule")) _ _ (counted_fits 1 ws _ (either_fits (bytes_eq (get_or ws 0 []) (codes "deadline")) _ _ tt tt))
     (either_fits (bytes_eq w (codes "task")) _ _ (counted_fits 4 ws _ (then_fits (number_of (get_or ws 0 [])) _ (λ l. then_fits (number_of (get_or ws 1 [])) _ (λ c. then_fits (number_of (get_or ws 2 [])) _ (λ d. then_fits (number_of (get_or ws 3 [])) _ (λ t. tt)))))) tt))
-
-pub line_fits : (line : List ℕ) (x : Entry) → Ok x ≡ line_entry line → CoresFit x
-line_fits line x e = subst FitIn (sym e) (either_fits (eqb (get_or line 0 0) 35) _ _ tt (words_fit (words line)))
 
 -- what a line tells of the cores is in range
 abbrev InRange : List ℕ → Type 0
@@ -95,4 +99,4 @@ module _ (before : List (List ℕ)) (line : List ℕ) (x : Entry) (d e : Draft) 
   pub put_entered : (n : ℕ) (r : Result (Unit {0}) ReadError) → Put d n x e r → Entered before n line e r
   put_entered n (Ok u) h = (fault_there ∙ h.0, grown_holds h.1)
   put_entered n (Err Memory) h = tt
-  put_entered n (Err (Line k f)) h = (h.0, fault_there ∙ h.1)
+  put_entered n (Err (Line l)) h = (h.0, fault_there ∙ h.1)

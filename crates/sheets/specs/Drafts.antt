@@ -1,11 +1,12 @@
 -- A sheet that is read in part.
-use Rattle.std.specs.Prelude.{◌≡◌, ℕ, ◌≤◌, List, [], ◌∷◌, ◌++◌, Some, None, Ok, Err, vec_items, Option, Result}
+use Rattle.std.specs.Prelude.{◌≡◌, ℕ, List, [], ◌∷◌, ◌++◌, Some, None, Ok, Err, vec_items, Option, Result, IsSome, MatchResult}
 use Rattle.std.specs.Option.{option_to_list}
 use Rattle.sheets.specs.declared.draft.Draft.{Draft}
 use Rattle.sheets.specs.declared.entry.Entry.{Entry}
 use Rattle.sheets.specs.declared.entry.Entry.TheVariants as entry
 use Rattle.sheets.specs.declared.entry.Fault.{Fault}
 use Rattle.sheets.specs.declared.entry.Fault.TheVariants.{CoresTwice, RuleTwice}
+use Rattle.sheets.specs.declared.line_fault.LineFault.{LineFault}
 use Rattle.sheets.specs.declared.reading.ReadError.{ReadError}
 use Rattle.sheets.specs.declared.reading.ReadError.TheVariants.{Memory, Line}
 use Rattle.sheets.specs.declared.reading.Sheet.{Sheet}
@@ -13,12 +14,10 @@ use Rattle.sheets.specs.Lines.{line_entry}
 use Rattle.sheets.specs.Outcomes.{page_of}
 use Rattle.sheets.specs.Reading.{cores_told, rule_told, task_told, all_cores, all_rules, all_tasks, again, fault_of, whole}
 
--- no line tells fewer than 1 core or more than 8
-abbrev pub CoresFit : Entry → Type 0
-CoresFit entry.Blank = Unit {0}
-CoresFit (entry.Cores n) = (1 ≤ n) × (n ≤ 8)
-CoresFit (entry.Rule r) = Unit {0}
-CoresFit (entry.Task k) = Unit {0}
+-- what storing x, told by a line, answers where an earlier line may have told it
+abbrev pub ToldOnce : {A : Type 0} → Option A → A → LineFault → Option A → Result (Unit {0}) LineFault → Type 0
+ToldOnce old x twice new r =
+    MatchResult r (λ u. (old ≡ None) × (new ≡ Some x)) (λ f. IsSome old × (f ≡ twice))
 
 -- what is wrong with an entry after a draft
 abbrev pub fault_after : Draft → Entry → Option Fault
@@ -37,7 +36,7 @@ pub record Grown (d : Draft) (x : Entry) (e : Draft) : Type 0 where
 abbrev pub Put : Draft → ℕ → Entry → Draft → Result (Unit {0}) ReadError → Type 0
 Put d n x e (Ok u) = (fault_after d x ≡ None) × Grown d x e
 Put d n x e (Err Memory) = Unit {0}
-Put d n x e (Err (Line k f)) = (k ≡ n) × (fault_after d x ≡ Some f)
+Put d n x e (Err (Line l)) = (l.number ≡ n) × (fault_after d x ≡ Some l.fault)
 
 -- a draft holds what some lines say
 pub record Holds (d : Draft) (ls : List (List ℕ)) : Type 0 where
@@ -49,10 +48,9 @@ pub record Holds (d : Draft) (ls : List (List ℕ)) : Type 0 where
 abbrev pub Entered : List (List ℕ) → ℕ → List ℕ → Draft → Result (Unit {0}) ReadError → Type 0
 Entered before n line e (Ok u) = (fault_of before (line_entry line) ≡ None) × Holds e (before ++ line ∷ [])
 Entered before n line e (Err Memory) = Unit {0}
-Entered before n line e (Err (Line k f)) = (k ≡ n) × (fault_of before (line_entry line) ≡ Some f)
+Entered before n line e (Err (Line l)) = (l.number ≡ n) × (fault_of before (line_entry line) ≡ Some l.fault)
 
 -- the sheet of a draft after n lines, or what none of them told
-abbrev pub Finished : ℕ → Draft → Result Sheet ReadError → Type 0
+abbrev pub Finished : ℕ → Draft → Result Sheet LineFault → Type 0
 Finished n d (Ok s) = whole n (option_to_list d.cores) (option_to_list d.rule) (vec_items d.tasks) ≡ Ok (page_of s)
-Finished n d (Err Memory) = ⊥
-Finished n d (Err (Line k f)) = whole n (option_to_list d.cores) (option_to_list d.rule) (vec_items d.tasks) ≡ Err (k, f)
+Finished n d (Err l) = whole n (option_to_list d.cores) (option_to_list d.rule) (vec_items d.tasks) ≡ Err (l.number, l.fault)

@@ -1,10 +1,12 @@
 -- What a line of a sheet says.
-use Rattle.std.specs.Prelude.{ℕ, cond, ◌&&◌, List, [], ◌∷◌, length, Ok, Err, codes, Result, ◌==◌, nat_le, nat_lt, slice_index, slice_index_or}
+use Rattle.std.specs.Prelude.{◌≡◌, ℕ, cond, ◌&&◌, List, [], ◌∷◌, length, Ok, Err, codes, Result, MatchResult, ◌==◌, nat_le, nat_lt, slice_index, slice_index_or}
+use Rattle.std.specs.Borrow.{Bor}
 use Rattle.std.specs.Str.{all_ascii_digits, bytes_eq}
 use Rattle.sheets.specs.declared.entry.Entry.{Entry}
 use Rattle.sheets.specs.declared.entry.Entry.TheVariants as entry
 use Rattle.sheets.specs.declared.entry.Fault.{Fault}
 use Rattle.sheets.specs.declared.entry.Fault.TheVariants.{UnknownWord, MissingWord, ExtraWord, NotNumber, TooLarge, BadCores, UnknownRule}
+use Rattle.sheets.specs.declared.entry.Rule.{Rule}
 use Rattle.sheets.specs.declared.entry.Rule.TheVariants.{Deadline}
 use Rattle.sheets.specs.Words.{words, filled, value}
 
@@ -19,6 +21,18 @@ number_of w = cond (filled w && all_ascii_digits w) (cond (nat_lt (value w) 6553
 -- just n words, or too few before too many
 abbrev pub counted : {A : Type 0} → ℕ → List (List ℕ) → Result A Fault → Result A Fault
 counted n ws r = cond (nat_lt (length ws) n) (Err MissingWord) (cond (nat_lt n (length ws)) (Err ExtraWord) r)
+
+-- the word of one, or what is wrong with so many
+abbrev pub OnlyWord : List (List ℕ) → Result (Bor (List ℕ)) Fault → Type 0
+OnlyWord ws r = MatchResult r (λ w. ws ≡ w.now ∷ []) (λ f. (s : Result Entry Fault) → counted 1 ws s ≡ Err f)
+
+-- a number of cores, from 1 to 8
+abbrev pub cores_of : ℕ → Result ℕ Fault
+cores_of n = cond (nat_le 1 n && nat_le n 8) (Ok n) (Err BadCores)
+
+-- the rule of this name
+abbrev pub rule_of : List ℕ → Result Rule Fault
+rule_of w = cond (bytes_eq w (codes "deadline")) (Ok Deadline) (Err UnknownRule)
 
 -- cores N, from 1 to 8
 abbrev pub cores_entry : List (List ℕ) → Result Entry Fault

@@ -12,4 +12,4 @@ page_of s = record { cores = s.cores; rule = s.rule; tasks = vec_items s.tasks }
 abbrev pub Read : List ℕ → Result Sheet ReadError → Type 0
 Read text (Ok s) = (read_text text ≡ Ok (page_of s)) × Says text (page_of s)
 Read text (Err Memory) = Unit {0}
-Read text (Err (Line n f)) = read_text text ≡ Err (n, f)
+Read text (Err (Line l)) = read_text text ≡ Err (l.number, l.fault)

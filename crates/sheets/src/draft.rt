@@ -1,16 +1,29 @@
 // A sheet that is read in part: what its first lines say.
 ghost use Rattle.std.specs.Prelude.{◌≡◌, ℕ, List, []};
-ghost use Rattle.sheets.specs.Drafts.{CoresFit, Put, Holds, Entered, Finished};
+ghost use Rattle.sheets.specs.Drafts.{ToldOnce, Put, Holds, Entered, Finished};
 
+use crate::cores::Cores;
 use crate::entries::line_entry;
 use crate::entry::{Entry, Fault, Rule};
+use crate::line_fault::LineFault;
 use crate::reading::{ReadError, Sheet};
 use analysis::task::Task;
 use std::alloc::Global;
 
+// Stores what a line tells, unless an earlier line told it.
+fn tell_once<T: Copy>(told: &mut Option<T>, value: T, twice: LineFault) -> Result<(), LineFault>
+    ensures { ToldOnce told.old value twice told.new result }
+{
+    if told.is_some() {
+        return Err(twice);
+    }
+    *told = Some(value);
+    Ok(())
+}
+
 #[derive(Drop)]
 pub(crate) struct Draft {
-    cores: Option<u8>,
+    cores: Option<Cores>,
     rule: Option<Rule>,
     tasks: Vec<Task>,
 }
@@ -29,25 +42,14 @@ impl Draft {
 
     // Takes in what the line of this number says.
     fn put(&mut self, number: usize, entry: Entry) -> Result<(), ReadError>
-        requires { CoresFit entry }
         ensures { Put self.old number entry self.new result }
     {
         match entry {
             Entry::Blank => {}
             Entry::Cores(cores) => {
-                if self.cores.is_some() {
-                    let fault = Fault::CoresTwice;
-                    return Err(ReadError::Line { number, fault });
-                }
-                self.cores = Some(cores as u8);
+                tell_once(&mut self.cores, cores, Fault::CoresTwice.at(number))?
             }
-            Entry::Rule(rule) => {
-                if self.rule.is_some() {
-                    let fault = Fault::RuleTwice;
-                    return Err(ReadError::Line { number, fault });
-                }
-                self.rule = Some(rule);
-            }
+            Entry::Rule(rule) => tell_once(&mut self.rule, rule, Fault::RuleTwice.at(number))?,
             Entry::Task(task) => self.tasks.push(task)?,
         }
         Ok(())
@@ -57,25 +59,17 @@ impl Draft {
     pub(crate) fn enter(&mut self, heap: Global, number: usize, line: &str) -> Result<(), ReadError>
         ensures { (before : List (List ℕ)) → Holds self.old before → Entered before number line.now self.new result }
     {
-        match line_entry(heap, line)? {
-            Ok(entry) => self.put(number, entry),
-            Err(fault) => Err(ReadError::Line { number, fault }),
-        }
+        let entry = line_entry(heap, line)?.map_err(|fault| fault.at(number))?;
+        self.put(number, entry)
     }
 
     // The sheet, after all its lines, `number` of them.
-    pub(crate) fn finish(self, number: usize) -> Result<Sheet, ReadError>
+    pub(crate) fn finish(self, number: usize) -> Result<Sheet, LineFault>
         ensures { Finished number self result }
     {
         let Draft { cores, rule, tasks } = self;
-        let Some(cores) = cores else {
-            let fault = Fault::NoCores;
-            return Err(ReadError::Line { number, fault });
-        };
-        let Some(rule) = rule else {
-            let fault = Fault::NoRule;
-            return Err(ReadError::Line { number, fault });
-        };
+        let cores = cores.ok_or(Fault::NoCores.at(number))?;
+        let rule = rule.ok_or(Fault::NoRule.at(number))?;
         Ok(Sheet { cores, rule, tasks })
     }
 }

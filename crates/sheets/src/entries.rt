@@ -1,42 +1,39 @@
 // What the words of a line say.
 ghost use Rattle.std.specs.Prelude.{◌≡◌, IfOk};
-ghost use Rattle.sheets.specs.Lines.{cores_entry, rule_entry, task_entry, words_entry, line_entry};
+ghost use Rattle.sheets.specs.Lines.{OnlyWord, cores_entry, rule_entry, task_entry, words_entry, line_entry};
 ghost use Rattle.sheets.specs.Words.{texts};
 
-use crate::entry::{Entry, Fault, Rule};
+use crate::cores::Cores;
+use crate::entry::{Entry, Fault};
 use crate::numbers::number;
 use crate::words::words_of;
 use analysis::task::Task;
 use std::alloc::{AllocError, Global};
 
+// The word, if it is just one.
+fn only_word<'a>(words: &[&'a str]) -> Result<&'a str, Fault>
+    ensures { OnlyWord (texts words.now) result }
+{
+    match words {
+        [] => Err(Fault::MissingWord),
+        [word] => Ok(*word),
+        _ => Err(Fault::ExtraWord),
+    }
+}
+
 // The number of cores, 1 to 8.
 fn cores_entry(words: &[&str]) -> Result<Entry, Fault>
     ensures { result ≡ cores_entry (texts words.now) }
 {
-    match words {
-        [] => Err(Fault::MissingWord),
-        [word] => {
-            let cores = number(word)?;
-            if 1 <= cores && cores <= 8 {
-                Ok(Entry::Cores(cores))
-            } else {
-                Err(Fault::BadCores)
-            }
-        }
-        _ => Err(Fault::ExtraWord),
-    }
+    let number = number(only_word(words)?)?;
+    Ok(Entry::Cores(Cores::try_from(number)?))
 }
 
 // The name of a rule.
 fn rule_entry(words: &[&str]) -> Result<Entry, Fault>
     ensures { result ≡ rule_entry (texts words.now) }
 {
-    match words {
-        [] => Err(Fault::MissingWord),
-        ["deadline"] => Ok(Entry::Rule(Rule::Deadline)),
-        [_] => Err(Fault::UnknownRule),
-        _ => Err(Fault::ExtraWord),
-    }
+    Ok(Entry::Rule(only_word(words)?.parse()?))
 }
 
 // Level, C, D and T.
@@ -75,6 +72,7 @@ pub fn entry_of(words: &[&str]) -> Result<Entry, Fault>
 }
 
 /// What a line says. One that begins with # says nothing.
+// Stays: no plainer, since an error enum of memory or fault would be a twin of `ReadError` that lacks the line's number.
 pub fn line_entry(heap: Global, line: &str) -> Result<Result<Entry, Fault>, AllocError>
     ensures { IfOk result (λ e. e ≡ line_entry line.now) }
 {

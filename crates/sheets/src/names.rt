@@ -5,6 +5,7 @@ ghost use Rattle.sheets.specs.Names.{rule_named};
 use rules::standard_rule::StandardRule;
 
 /// The rule of this name: response, deadline or all-carry.
+// Stays: no plainer, since a `FromStr` of `StandardRule` can stand in its crate alone, which knows nothing of sheets.
 pub fn rule_named(word: &str) -> Option<StandardRule>
     ensures { result ≡ rule_named word.now }
 {

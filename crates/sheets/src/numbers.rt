@@ -10,12 +10,7 @@ use crate::entry::Fault;
 fn only_digits(word: &str) -> bool
     ensures { result ≡ (filled word.now && all_ascii_digits word.now) }
 {
-    for b in word.as_bytes() {
-        if !b.is_ascii_digit() {
-            return false;
-        }
-    }
-    !word.is_empty()
+    !word.is_empty() && word.as_bytes().iter().all(u8::is_ascii_digit)
 }
 
 /// The number that a word writes, if it is digits alone and fits 16 bits.
@@ -25,8 +20,5 @@ pub fn number(word: &str) -> Result<u16, Fault>
     if !only_digits(word) {
         return Err(Fault::NotNumber);
     }
-    match word.parse::<u16>() {
-        Ok(n) => Ok(n),
-        Err(_) => Err(Fault::TooLarge),
-    }
+    word.parse().map_err(|_| Fault::TooLarge)
 }

@@ -1,10 +1,12 @@
 // Reading a whole sheet.
 ghost use Rattle.std.specs.Prelude.{◌≡◌};
 ghost use Rattle.sheets.specs.Outcomes.{Read};
-ghost use Rattle.sheets.specs.declared.reading.ReadError.TheVariants.{Memory};
+ghost use Rattle.sheets.specs.declared.reading.ReadError.TheVariants.{Memory, Line};
 
+use crate::cores::Cores;
 use crate::draft::Draft;
-use crate::entry::{Fault, Rule};
+use crate::entry::Rule;
+use crate::line_fault::LineFault;
 use crate::words::lines_of;
 use analysis::task::Task;
 use std::alloc::{AllocError, AllocFailed, Global};
@@ -12,18 +14,18 @@ use std::alloc::{AllocError, AllocFailed, Global};
 /// What a sheet says: the cores, the rule and the tasks in their order.
 #[derive(Drop)]
 pub struct Sheet {
-    pub cores: u8,
+    pub cores: Cores,
     pub rule: Rule,
     pub tasks: Vec<Task>,
 }
 
 /// Why a sheet was not read.
-#[derive(Drop)]
+#[derive(Clone, Copy, PartialEq, Eq, Debug)]
 pub enum ReadError {
     /// There was no memory for it.
     Memory,
-    /// What is wrong, and with which line, counted from 1.
-    Line { number: usize, fault: Fault },
+    /// What is wrong, and with which line.
+    Line(LineFault),
 }
 
 impl From<AllocError> for ReadError {
@@ -42,6 +44,14 @@ impl<T: Drop> From<AllocFailed<T>> for ReadError {
     }
 }
 
+impl From<LineFault> for ReadError {
+    ghost from_gives = { λ fault r. r ≡ Line fault };
+
+    fn from(fault: LineFault) -> ReadError {
+        ReadError::Line(fault)
+    }
+}
+
 /// Reads a sheet: each line can be read, one tells the cores, one the rule, and the others the tasks.
 pub fn read(heap: Global, text: &str) -> Result<Sheet, ReadError>
     ensures { Read text.now result }
@@ -51,5 +61,5 @@ pub fn read(heap: Global, text: &str) -> Result<Sheet, ReadError>
     for (i, line) in lines.iter().enumerate() {
         draft.enter(heap, i + 1, line)?;
     }
-    draft.finish(lines.len())
+    Ok(draft.finish(lines.len())?)
 }

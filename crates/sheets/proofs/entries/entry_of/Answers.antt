@@ -1,35 +1,13 @@
-use Rattle.std.proofs.Common.{◌≡◌, ◌<◌, length, get_or, codes, sym, ap, ◌∙◌, rules}
-use Rattle.std.proofs.lemmas.List.{nil_from_length}
-use Rattle.sheets.specs.Lines.{words_entry}
-use Rattle.sheets.specs.Words.{texts}
-use Rattle.sheets.proofs.Pieces.{no_text}
-use Rattle.sheets.proofs.Said.{first_word, unknown_word}
+use Rattle.std.proofs.Common.{◌≡◌, ℕ, true, false, List, ⊎_elim, arith}
+use Rattle.std.specs.Str.{bytes_eq}
+use Rattle.std.proofs.lemmas.Bool.{cases_Bool}
+use Rattle.std.proofs.lemmas.Grind.{common_steps}
+use Rattle.std.proofs.lemmas.Slice.Eq.{bytes_eq-Decides}
 use Rattle.sheets.proofs.entries.entry_of.Goals as goal
 
-pub returns-in-empty : goal.returns-in-empty
-returns-in-empty c =
-    let none : length c.args.words.now ≡ 0 = search rules in
-    ap (λ l. words_entry (texts l)) (sym (nil_from_length c.args.words.now none))
-
-pub returns-in-cores : goal.returns-in-cores
-returns-in-cores c =
-    let some : 0 < length c.args.words.now = search rules in
-    c.cores_entry.ensures ∙ first_word c.args.words.now some (codes "cores") c.in-cores.is-cores
-
-pub returns-in-rule : goal.returns-in-rule
-returns-in-rule c =
-    let some : 0 < length c.args.words.now = search rules in
-    c.rule_entry.ensures ∙ first_word c.args.words.now some (codes "rule") c.in-rule.is-rule
-
-pub returns-in-task : goal.returns-in-task
-returns-in-task c =
-    let some : 0 < length c.args.words.now = search rules in
-    c.task_entry.ensures ∙ first_word c.args.words.now some (codes "task") c.in-task.is-task
+unequal : (xs ys : List ℕ) → (xs ≡ ys → ⊥) → bytes_eq xs ys ≡ false
+unequal xs ys apart =
+    ⊎_elim (λ (e : bytes_eq xs ys ≡ true). absurd (apart ((bytes_eq-Decides xs ys).0 e))) (λ (e : bytes_eq xs ys ≡ false). e) (cases_Bool (bytes_eq xs ys))
 
 pub returns-in_default : goal.returns-in_default
-returns-in_default c =
-    let some : 0 < length c.args.words.now = search rules in
-    let cores : (get_or c.args.words.now 0 no_text).now ≡ codes "cores" → ⊥ = search rules in
-    let rule : (get_or c.args.words.now 0 no_text).now ≡ codes "rule" → ⊥ = search rules in
-    let task : (get_or c.args.words.now 0 no_text).now ≡ codes "task" → ⊥ = search rules in
-    unknown_word c.args.words.now some cores rule task
+returns-in_default c = grind (arith, common_steps, unequal)

@@ -1,11 +1,8 @@
-use Rattle.std.proofs.Common.{sym}
-use Rattle.sheets.proofs.Digits.{parsed, not_parsed}
+use Rattle.std.proofs.Common.{sym, rules}
+use Rattle.std.proofs.lemmas.Result.{MatchResult-weaker}
+use Rattle.sheets.proofs.Digits.{parsed}
 use Rattle.sheets.proofs.numbers.number.Goals as goal
 
-pub returns-in-Ok : goal.returns-in-Ok
-returns-in-Ok c =
-    parsed c.args.word.now c.parse.result (sym c.if-not-only_digits.ensures) c.parse.ensures.value.0 _ c.in-Ok.is
-
-pub returns-in-Err : goal.returns-in-Err
-returns-in-Err c =
-    not_parsed c.args.word.now c.parse.result (sym c.if-not-only_digits.ensures) c.parse.ensures.value.0 _ c.in-Err.is
+pub returns : goal.returns
+returns c =
+    parsed c.args.word.now (sym c.if-not-only_digits.ensures) c.parse.result c.map_err.result c.parse.ensures.value.0 (MatchResult-weaker c.parse.result c.map_err.ensures.cases (λ n h. h) (λ e h. search rules))

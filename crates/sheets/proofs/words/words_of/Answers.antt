@@ -1,19 +1,11 @@
-use Rattle.std.proofs.Common.{vec_items, sym, ap, ◌∙◌}
-use Rattle.sheets.specs.Words.{texts}
-use Rattle.sheets.proofs.Pieces.{word_kept, word_passed, words_all}
+use Rattle.std.proofs.Common.{lit<, not, eqb, length, rules}
+use Rattle.sheets.proofs.Pieces.{collected_words}
 use Rattle.sheets.proofs.words.words_of.Goals as goal
-use Rattle.sheets.proofs.words.words_of.Goals.{then-not-is_empty+in_ok-push, else-not-is_empty}
-
-pub loop-piece-preserved : goal.loop-piece-preserved
-loop-piece-preserved c =
-    elim c.if-not-is_empty.branch [
-      | then-not-is_empty+in_ok-push w ↦
-          rw w.found-is (word_kept c.deref-piece-items.result.now c.loop-piece.piece-index (vec_items c.loop-piece.found) c.loop-piece-test.true c.loop-piece.invariant w.push.result _ _ (sym w.if-not-is_empty.ensures) w.in_ok-push.was w.push.ensures.items)
-      | else-not-is_empty w ↦
-          rw w.found-is (word_passed c.deref-piece-items.result.now c.loop-piece.piece-index (vec_items c.loop-piece.found) c.loop-piece-test.true c.loop-piece.invariant (sym w.if-not-is_empty.ensures))
-    ]
 
 pub returns : goal.returns
 returns c =
-    words_all c.deref-piece-items.result.now (vec_items c.loop-piece.found) c.loop-piece.piece-index c.args.line.now c.loop-piece-test.false
-    (ap texts c.deref-piece-items.ensures.value ∙ c.in_ok-pieces.ensures) c.loop-piece.invariant
+    collected_words 32 c.args.line.now c.split.result
+    (λ u seen from. let told = c.split.ensures.runs u seen from in (told.0, told.2 (lit< tt) (λ q e. e, λ w o f. f)))
+    c.filter.result c.collect.result
+    (λ p seen from. let told = c.filter.ensures.runs p seen from in (told.0, told.1, (told.2.0, told.2.4 (λ x. not (eqb (length x.now) 0)) (λ x b f' k. search rules))))
+    c.collect.ensures.runs

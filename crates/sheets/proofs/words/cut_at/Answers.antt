@@ -1,8 +1,0 @@
-use Rattle.sheets.proofs.Pieces.{collected_pieces}
-use Rattle.sheets.proofs.words.cut_at.Goals as goal
-
-pub returns : goal.returns
-returns c =
-    collected_pieces c.args.mark c.args.text.now c.split.result
-    (λ u seen from. let told = c.split.ensures.runs u seen from in (told.0, told.2 c.requires (λ q e. e, λ w o f. f)))
-    c.collect.result c.collect.ensures.runs
