@@ -1,9 +1,7 @@
 -- By the deadline rule the rows and the verdict of a plan are those of the check by the published test. Assumes nothing.
-use Rattle.std.proofs.Common.{◌≡◌, ℕ, ◌+◌, Bool, true, false, List, [], ◌∷◌, ◌++◌, Some, None, Err, Result, sym, refl, ap, subst, ◌∙◌, arith}
+use Rattle.std.proofs.Common.{◌≡◌, ℕ, ◌+◌, ◌-◌, Bool, cond, List, [], ◌∷◌, ◌++◌, Some, None, Result, sym, refl, ap, subst, ◌∙◌, arith}
 use Rattle.std.proofs.lemmas.List.{append_assoc, append-nil}
-use Rattle.std.proofs.lemmas.Bool.{cond-true, cond-false}
 use Rattle.planning.specs.declared.refusal.Refusal.{Refusal}
-use Rattle.planning.specs.declared.refusal.Refusal.TheVariants.{NoBound}
 use Rattle.planning.specs.declared.verdict.Row.{Row}
 use Rattle.planning.specs.Admission.{first_fault, by_level}
 use Rattle.planning.specs.Plans as tested
@@ -12,11 +10,9 @@ use Rattle.planning.specs.Published.{Judged}
 use Rattle.plans.proofs.Verdicts.{verdict_judged}
 use Rattle.analysis.specs.declared.task.Task.{Task}
 use Rattle.analysis.specs.declared.task.BoundedTask.{BoundedTask}
-use Rattle.analysis.specs.Interference.{level_of}
 use Rattle.rules.specs.Bounds.{rebound, tasks_of}
 use Rattle.rules.specs.Rules.{Rule, deadline}
-use Rattle.rules.specs.Search.{bound_of, passes_by}
-use Rattle.rules.proofs.Least.{least_here, least_next, least_none}
+use Rattle.rules.specs.Search.{least, bound_of, passes_by}
 use Rattle.rules.proofs.Rebounds.{rebound_some, rebound_none}
 use Rattle.plans.specs.Plans.{row_of, rows_from, verdict_on, plan_rows, plan_verdict}
 use Rattle.plans.proofs.Plans.{tasks_deadline}
@@ -37,56 +33,34 @@ module _ (m : ℕ) where
   abbrev reset : List BoundedTask → List BoundedTask
   reset is = all_at_deadline (tasks_of is)
 
-  bound_here : (above : List BoundedTask) (k : Task) → passing above k ≡ true → bound_of deadline k above m ≡ Some k.deadline
-  bound_here above k p = least_here (passes_by deadline k above m) k.deadline k.deadline (omega arith) p
-
-  bound_nowhere : (above : List BoundedTask) (k : Task) → passing above k ≡ false → bound_of deadline k above m ≡ None
-  bound_nowhere above k p =
-      least_next (passes_by deadline k above m) k.deadline k.deadline (omega arith) p
-      ∙ least_none (passes_by deadline k above m) k.deadline (k.deadline + 1) (omega arith)
+  bound_is : (above : List BoundedTask) (k : Task) → bound_of deadline k above m ≡ cond (passing above k) (Some k.deadline) None
+  unfolding least
+  bound_is above k = let one : k.deadline + 1 - k.deadline ≡ 1 = omega arith in rw one refl
 
   -- the verdict goes by the first task that does not pass at its deadline
   verdict_behind : (above is : List BoundedTask) → verdict_on (rebound deadline m above is).left ≡ tested.verdict_from m above (reset is)
   unfolding rebound
   verdict_behind above [] = refl
-  verdict_behind above (i ∷ is) = split (passing above i.task) refl (verdict_behind (above ++ at_deadline i.task ∷ []) is)
-    where
-      split :
-          (t : Bool) →
-          passing above i.task ≡ t →
-          verdict_on (rebound deadline m (above ++ at_deadline i.task ∷ []) is).left ≡ tested.verdict_from m (above ++ at_deadline i.task ∷ []) (reset is) →
-          verdict_on (rebound deadline m above (i ∷ is)).left ≡ tested.verdict_from m above (reset (i ∷ is))
-      split true p h =
-          ap (λ o. verdict_on o.left) (rebound_some deadline m above i is i.task.deadline (bound_here above i.task p))
-          ∙ h
-          ∙ sym (cond-true (passing above i.task) (tested.verdict_from m (above ++ at_deadline i.task ∷ []) (reset is)) (Err (NoBound (level_of i))) p)
-      split false p h =
-          ap (λ o. verdict_on o.left) (rebound_none deadline m above i is (bound_nowhere above i.task p))
-          ∙ sym (cond-false (passing above i.task) (tested.verdict_from m (above ++ at_deadline i.task ∷ []) (reset is)) (Err (NoBound (level_of i))) p)
+  verdict_behind above (i ∷ is) =
+      let h = verdict_behind (above ++ at_deadline i.task ∷ []) is in
+      let b = bound_is above i.task in
+      let some = rebound_some deadline m above i is i.task.deadline in
+      let none = rebound_none deadline m above i is in
+      grind arith
 
   -- and so do the rows, behind those of the tasks above
   rows_behind : (above is : List BoundedTask) → rows_from deadline m [] (rebound deadline m above is).done ≡ rows_from deadline m [] above ++ tested.rows_from m above (reset is)
   unfolding rebound
   rows_behind above [] = sym (append-nil (rows_from deadline m [] above))
-  rows_behind above (i ∷ is) = split (passing above i.task) refl (rows_behind (above ++ at_deadline i.task ∷ []) is)
-    where
-      split :
-          (t : Bool) →
-          passing above i.task ≡ t →
-          rows_from deadline m [] (rebound deadline m (above ++ at_deadline i.task ∷ []) is).done ≡ rows_from deadline m [] (above ++ at_deadline i.task ∷ []) ++ tested.rows_from m (above ++ at_deadline i.task ∷ []) (reset is) →
-          rows_from deadline m [] (rebound deadline m above (i ∷ is)).done ≡ rows_from deadline m [] above ++ tested.rows_from m above (reset (i ∷ is))
-      split true p h =
-          let rest = tested.rows_from m (above ++ at_deadline i.task ∷ []) (reset is) in
-          ap (λ o. rows_from deadline m [] o.done) (rebound_some deadline m above i is i.task.deadline (bound_here above i.task p))
-          ∙ h
-          ∙ ap (λ rs. rs ++ rest) (rows_push deadline m [] above (at_deadline i.task))
-          ∙ append_assoc (rows_from deadline m [] above) (row_of deadline m above (at_deadline i.task) ∷ []) rest
-          ∙ ap (λ rs. rows_from deadline m [] above ++ rs) (sym (cond-true (passing above i.task) (row_of deadline m above (at_deadline i.task) ∷ rest) [] p))
-      split false p h =
-          let rest = tested.rows_from m (above ++ at_deadline i.task ∷ []) (reset is) in
-          ap (λ o. rows_from deadline m [] o.done) (rebound_none deadline m above i is (bound_nowhere above i.task p))
-          ∙ sym (append-nil (rows_from deadline m [] above))
-          ∙ ap (λ rs. rows_from deadline m [] above ++ rs) (sym (cond-false (passing above i.task) (row_of deadline m above (at_deadline i.task) ∷ rest) [] p))
+  rows_behind above (i ∷ is) =
+      let h = rows_behind (above ++ at_deadline i.task ∷ []) is in
+      let b = bound_is above i.task in
+      let some = rebound_some deadline m above i is i.task.deadline in
+      let none = rebound_none deadline m above i is in
+      let more = rows_push deadline m [] above (at_deadline i.task) in
+      let front = append_assoc (rows_from deadline m [] above) (row_of deadline m above (at_deadline i.task) ∷ []) in
+      let end = append-nil (rows_from deadline m [] above) in
+      grind arith
 
 -- rows and verdict on a set, by a rule that is the deadline rule
 module _ (r : Rule) (m : ℕ) (set : List BoundedTask) (d : r ≡ deadline) where
