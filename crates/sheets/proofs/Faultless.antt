@@ -15,17 +15,17 @@ use Rattle.sheets.proofs.Told.{cores_in_range, cores_more, rules_more}
 -- no fault at a line, and none later
 none_here : (n : ℕ) (o : Option Fault) (later : Option (ℕ × Fault)) → at_line n o later ≡ None → (o ≡ None) × (later ≡ None)
 none_here n None later e = (refl, e)
-none_here n (Some f) later e = absurd (let z : ◌≡◌ {A = ℕ} 0 1 = cc in omega arith)
+none_here n (Some f) later e = absurd cc
 
 -- what is told once more was not told
 not_told : {A : Type 0} (xs : List A) (f : Fault) → again xs f ≡ None → xs ≡ []
 not_told [] f e = refl
-not_told (x ∷ xs) f e = absurd (let z : ◌≡◌ {A = ℕ} 0 1 = cc in omega arith)
+not_told (x ∷ xs) f e = absurd cc
 
 module _ (before : List (List ℕ)) where
   can_be_read : (r : Result Entry Fault) → fault_of before r ≡ None → is_ok r ≡ true
   can_be_read (Ok x) e = refl
-  can_be_read (Err f) e = absurd (let z : ◌≡◌ {A = ℕ} 0 1 = cc in omega arith)
+  can_be_read (Err f) e = absurd cc
 
   one_cores_more : (r : Result Entry Fault) → fault_of before r ≡ None → length (all_cores before) ≤ 1 → length (all_cores before ++ cores_told r) ≤ 1
   one_cores_more (Ok entry.Blank) e few = rw append-nil few
@@ -66,7 +66,7 @@ only_one x (y ∷ xs) few = absurd (omega arith)
 
 no_fault : (o : Option (ℕ × Fault)) (r : Result Page (ℕ × Fault)) (p : Page) → faulty o r ≡ Ok p → (o ≡ None) × (r ≡ Ok p)
 no_fault None r p e = (refl, e)
-no_fault (Some q) r p e = absurd (let z : ◌≡◌ {A = ℕ} 0 1 = cc in omega arith)
+no_fault (Some q) r p e = absurd cc
 
 abbrev page : ℕ → Rule → List Task → Page
 page c r ts = record { cores = c; rule = r; tasks = ts }
@@ -77,8 +77,8 @@ record Parts (cs : List ℕ) (rs : List Rule) (ts : List Task) (p : Page) : Type
   tasks : ts ≡ p.tasks
 
 parts : (n : ℕ) (cs : List ℕ) (rs : List Rule) (ts : List Task) (p : Page) → whole n cs rs ts ≡ Ok p → length cs ≤ 1 → length rs ≤ 1 → Parts cs rs ts p
-parts n [] rs ts p e few fewer = absurd (let z : ◌≡◌ {A = ℕ} 0 1 = cc in omega arith)
-parts n (c ∷ cs) [] ts p e few fewer = absurd (let z : ◌≡◌ {A = ℕ} 0 1 = cc in omega arith)
+parts n [] rs ts p e few fewer = absurd cc
+parts n (c ∷ cs) [] ts p e few fewer = absurd cc
 parts n (c ∷ cs) (r ∷ rs) ts p e few fewer =
     let same : page c r ts ≡ p = cc in
     record {
