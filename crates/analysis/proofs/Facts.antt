@@ -1,13 +1,13 @@
 -- What the tests of limits tell. Assumes nothing.
-use Rattle.std.proofs.Common.{◌≡◌, ℕ, ◌<◌, ◌≤◌, true, ◌&&◌, leb, List, [], ◌∷◌, length, get_or}
-use Rattle.std.proofs.lemmas.Bool.{and_parts, leb-true, ltb-true}
+use Rattle.std.proofs.Common.{◌≡◌, ℕ, ◌<◌, ◌≤◌, true, false, ◌&&◌, leb, refl, List, [], ◌∷◌, length, get_or}
+use Rattle.std.proofs.lemmas.Bool.{and_parts, or_from, leb-true, ltb-true, ne_eqb}
 use Rattle.std.specs.List.{AllByRecursion}
 use Rattle.std.proofs.ByRecursion.{All-get_or, All-weaker}
 use Rattle.analysis.specs.declared.task.Task.{Task}
 use Rattle.analysis.specs.declared.task.BoundedTask.{BoundedTask}
 use Rattle.analysis.proofs.Blank.{no_bounded}
 use Rattle.analysis.specs.Tasks.{level_fits, timing_fits, within_limits, bound_fits}
-use Rattle.analysis.specs.Interference.{above, all_above, distinct, level_of, lawful, numbers_fit}
+use Rattle.analysis.specs.Interference.{above, all_above, taken, distinct, level_of, lawful, numbers_fit}
 
 -- a task within its limits
 pub record Limits (k : Task) : Type 0 where
@@ -90,3 +90,7 @@ lawful_case k others m x e =
 
 pub level_at : (is : List BoundedTask) (i : ℕ) → i < length is → AllByRecursion (λ i. level_of i ≤ 63) is → level_of (get_or is i no_bounded) ≤ 63
 level_at is i l a = All-get_or (λ i. level_of i ≤ 63) is i no_bounded l a
+
+pub taken_none : (l : ℕ) (is : List BoundedTask) → AllByRecursion (λ i. level_of i ≡ l → ⊥) is → taken level_of l is ≡ false
+taken_none l [] a = refl
+taken_none l (i ∷ is) a = or_from _ _ (ne_eqb (level_of i) l a.0) (taken_none l is a.1)

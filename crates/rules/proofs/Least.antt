@@ -46,6 +46,24 @@ module _ (p : ℕ → Bool) where
       (λ (h : last + 1 + 1 ≤ first). let z : last + 1 - first ≡ 0 = omega arith in rw z (λ y a b. absurd (omega arith)))
       (cases_lt first (last + 1 + 1))
 
+  module _ (last x : ℕ) where
+    -- x is tried
+    pub least_here : x ≤ last → p x ≡ true → least p (last + 1 - x) x ≡ Some x
+    unfolding least
+    least_here l e = let z : last + 1 - x ≡ suc (last - x) = omega arith in rw (z, e) refl
+
+    pub least_next : x ≤ last → p x ≡ false → least p (last + 1 - x) x ≡ least p (last + 1 - (x + 1)) (x + 1)
+    unfolding least
+    least_next l e =
+        let z : last + 1 - x ≡ suc (last - x) = omega arith in
+        let s : suc x ≡ x + 1 = omega arith in
+        let n : last - x ≡ last + 1 - (x + 1) = omega arith in
+        rw (z, e) (λ j. least p (n j) (s j))
+
+    pub least_none : last + 1 ≤ x → least p (last + 1 - x) x ≡ None
+    unfolding least
+    least_none l = let z : last + 1 - x ≡ 0 = omega arith in rw z refl
+
 -- the search answers the bound
 pub bound_found : (r : Rule) (k : Task) (above : List BoundedTask) (m : ℕ) (o : Option ℕ) → bound_of r k above m ≡ o → IsBound r k above m o
 bound_found r k above m o e = subst (IsBound r k above m) e (least_found (passes_by r k above m) (r.first k above m) k.deadline)

@@ -1,8 +1,9 @@
 -- A task set that is worked through from the most urgent task on: each task can be tested against those before it.
 -- Assumes nothing.
-use Rattle.std.proofs.Common.{◌≡◌, ℕ, ◌+◌, ◌<◌, ◌≤◌, true, false, not, ◌&&◌, eqb, ltb, leb, List, [], ◌∷◌, ◌++◌, length, sym, refl, subst, arith}
+use Rattle.std.proofs.Common.{◌≡◌, ℕ, ◌+◌, ◌<◌, ◌≤◌, true, false, not, ◌&&◌, eqb, ltb, leb, List, [], ◌∷◌, ◌++◌, length, sym, refl, ◌∙◌, subst, arith}
 use Rattle.std.proofs.ByRecursion.{All-push, All-weaker}
 use Rattle.std.proofs.lemmas.List.{append_assoc, append-nil, length_push}
+use Rattle.std.proofs.lemmas.List.Folds.{list_any-append}
 use Rattle.std.proofs.lemmas.Bool.{and_from, and_parts, or_parts, or_from, not-true, not_from_false, le-leb, lt-ltb, leb-true, ltb-true, eqb-false, ne_eqb}
 use Rattle.std.specs.List.{AllByRecursion}
 use Rattle.analysis.specs.declared.task.Task.{Task}
@@ -10,7 +11,7 @@ use Rattle.analysis.specs.declared.task.BoundedTask.{BoundedTask}
 use Rattle.analysis.specs.Interference.{all_above, taken, distinct, level_of, lawful, numbers_fit}
 use Rattle.analysis.specs.Kept.{Holds, Kept}
 use Rattle.analysis.specs.Tasks.{within_limits, bound_fits}
-use Rattle.analysis.proofs.Facts.{lawful_case}
+use Rattle.analysis.proofs.Facts.{lawful_case, taken_none}
 use Rattle.rules.specs.Bounds.{below, rises, all_within, set_fits}
 
 abbrev pub Within : BoundedTask → Type 0
@@ -35,10 +36,6 @@ pub record Walk (m : ℕ) (seen is : List BoundedTask) : Type 0 where
   pub rising : Rising is
   pub few : length seen + length is ≤ 32
 
-taken_before : (l : ℕ) (is : List BoundedTask) → AllByRecursion (λ i. level_of i < l) is → taken level_of l is ≡ false
-taken_before l [] a = refl
-taken_before l (i ∷ is) a = let p = a.0 in or_from _ _ (ne_eqb (level_of i) l (λ e. omega arith)) (taken_before l is a.1)
-
 heads : (i : BoundedTask) (is seen : List BoundedTask) → AllByRecursion (λ j. After (level_of j) (i ∷ is)) seen → AllByRecursion (λ j. level_of j < level_of i) seen
 heads i is seen a = All-weaker (λ j. After (level_of j) (i ∷ is)) (λ j. level_of j < level_of i) (λ j h. h.0) seen a
 
@@ -48,11 +45,9 @@ distinct_push [] i d t = refl
 distinct_push (x ∷ xs) i d t =
     let p = and_parts (not (taken level_of (level_of x) xs)) (distinct level_of xs) d in
     let q = or_parts (eqb (level_of x) (level_of i)) (taken level_of (level_of i) xs) t in
-    and_from _ _ (not_from_false _ (pushed xs (not-true _ p.0) (λ e. eqb-false (level_of x) (level_of i) q.0 (sym e)))) (distinct_push xs i p.1 q.1)
-  where
-    pushed : (ys : List BoundedTask) → taken level_of (level_of x) ys ≡ false → (level_of i ≡ level_of x → ⊥) → taken level_of (level_of x) (ys ++ i ∷ []) ≡ false
-    pushed [] t n = or_from _ _ (ne_eqb (level_of i) (level_of x) n) refl
-    pushed (y ∷ ys) t n = let r = or_parts (eqb (level_of y) (level_of x)) (taken level_of (level_of x) ys) t in or_from _ _ r.0 (pushed ys r.1 n)
+    let differs = ne_eqb (level_of i) (level_of x) (λ e. eqb-false (level_of x) (level_of i) q.0 (sym e)) in
+    let fresh = list_any-append (λ j. eqb (level_of j) (level_of x)) xs (i ∷ []) ∙ or_from _ _ (not-true _ p.0) (or_from _ _ differs refl) in
+    and_from _ _ (not_from_false _ fresh) (distinct_push xs i p.1 q.1)
 
 -- the next task got its bound x
 pub walk_more :
@@ -67,7 +62,7 @@ walk_more m seen i j is e b w =
       few_cores = w.few_cores;
       seen_fit = All-push (λ j. bound_fits j ≡ true) seen j w.seen_fit b;
       fit = w.fit.1;
-      apart = distinct_push seen j w.apart (taken_before (level_of j) seen (subst (λ l. AllByRecursion (λ j. level_of j < l) seen) (sym e) (heads i is seen w.order)));
+      apart = distinct_push seen j w.apart (taken_none (level_of j) seen (All-weaker (λ k. level_of k < level_of i) (λ k. level_of k ≡ level_of j → ⊥) (λ k h f. omega arith) seen (heads i is seen w.order)));
       order = All-push (λ j. After (level_of j) is) seen j (All-weaker (λ j. After (level_of j) (i ∷ is)) (λ j. After (level_of j) is) (λ j h. h.1) seen w.order) (subst (λ l. After l is) (sym e) w.rising.0);
       rising = w.rising.1;
       few = let f = w.few in omega (arith, length_push seen j);

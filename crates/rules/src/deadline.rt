@@ -15,6 +15,7 @@ impl CountingRule for DeadlineRule {
 
     ghost laws = { λ _. standard_lawful Deadline };
 
+    // Stays: a default body in the trait would have to be right for every rule, so rules that start or count alike each say so.
     fn first_window(&self, case: &Case) -> u16 {
         case.task.deadline
     }

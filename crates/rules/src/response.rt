@@ -19,7 +19,6 @@ impl CountingRule for ResponseRule {
         case.task.run
     }
 
-    // Stays: a default body in the trait would have to be right for every rule, so two rules that count alike each say so.
     fn total(&self, case: &Case, window: u16) -> u32 {
         case.total(window)
     }

@@ -1,28 +1,20 @@
 -- The tasks of a set by their levels. Assumes nothing.
 use Rattle.std.proofs.Common.{◌≡◌, ℕ, ◌<◌, Bool, true, false, cond, ◌||◌, eqb, List, [], ◌∷◌, ◌++◌, refl, ap, ◌∙◌, subst, ⊎_elim, arith}
-use Rattle.std.proofs.lemmas.Bool.{eq-eqb, ne_eqb, eqb-true, or_cases, or_from, or_left, or_right, or_parts}
+use Rattle.std.proofs.lemmas.List.Folds.{list_any-append}
+use Rattle.std.proofs.lemmas.Bool.{eq-eqb, eqb-true, or_cases, or_left, or_right, or_parts}
 use Rattle.std.specs.List.{AllByRecursion}
 use Rattle.analysis.specs.declared.task.BoundedTask.{BoundedTask}
 use Rattle.analysis.specs.Interference.{level_of, taken}
 use Rattle.schedule.specs.Levels.{no_task, at_level}
 
 pub taken_append : (l : ℕ) (xs ys : List BoundedTask) → taken level_of l xs ≡ false → taken level_of l (xs ++ ys) ≡ taken level_of l ys
-taken_append l [] ys e = refl
-taken_append l (x ∷ xs) ys e =
-    let p = or_parts (eqb (level_of x) l) (taken level_of l xs) e in
-    ap (λ t. t || taken level_of l (xs ++ ys)) p.0 ∙ taken_append l xs ys p.1
+taken_append l xs ys e = list_any-append (λ i. eqb (level_of i) l) xs ys ∙ ap (λ t. t || taken level_of l ys) e
 
 pub taken_push : (l : ℕ) (xs : List BoundedTask) (y : BoundedTask) → taken level_of l xs ≡ true → taken level_of l (xs ++ y ∷ []) ≡ true
-taken_push l [] y e = let z : ◌≡◌ {A = ℕ} 0 1 = cc in absurd (omega arith)
-taken_push l (x ∷ xs) y e =
-    ⊎_elim
-    (λ (h : eqb (level_of x) l ≡ true). or_left _ _ h)
-    (λ (h : taken level_of l xs ≡ true). or_right _ _ (taken_push l xs y h))
-    (or_cases (eqb (level_of x) l) (taken level_of l xs) e)
+taken_push l xs y e = list_any-append (λ i. eqb (level_of i) l) xs (y ∷ []) ∙ or_left _ _ e
 
 pub taken_last : (xs : List BoundedTask) (y : BoundedTask) → taken level_of (level_of y) (xs ++ y ∷ []) ≡ true
-taken_last [] y = or_left _ _ (eq-eqb (level_of y) (level_of y) refl)
-taken_last (x ∷ xs) y = or_right _ _ (taken_last xs y)
+taken_last xs y = list_any-append (λ i. eqb (level_of i) (level_of y)) xs (y ∷ []) ∙ or_right _ _ (or_left _ _ (eq-eqb (level_of y) (level_of y) refl))
 
 pub taken_below : (l n : ℕ) (xs : List BoundedTask) → AllByRecursion (λ i. level_of i < n) xs → taken level_of l xs ≡ true → l < n
 taken_below l n [] a e = let z : ◌≡◌ {A = ℕ} 0 1 = cc in absurd (omega arith)
@@ -31,14 +23,6 @@ taken_below l n (x ∷ xs) a e =
     (λ (h : eqb (level_of x) l ≡ true). omega (arith, eqb-true _ _ h, a.0))
     (λ (h : taken level_of l xs ≡ true). taken_below l n xs a.1 h)
     (or_cases (eqb (level_of x) l) (taken level_of l xs) e)
-
-pub taken_above : (l : ℕ) (xs : List BoundedTask) → AllByRecursion (λ i. l < level_of i) xs → taken level_of l xs ≡ false
-taken_above l [] a = refl
-taken_above l (x ∷ xs) a = let h = a.0 in or_from _ _ (ne_eqb (level_of x) l (λ e. omega arith)) (taken_above l xs a.1)
-
-pub not_below : (l : ℕ) (xs : List BoundedTask) → AllByRecursion (λ i. level_of i < l) xs → taken level_of l xs ≡ false
-not_below l [] a = refl
-not_below l (x ∷ xs) a = let h = a.0 in or_from _ _ (ne_eqb (level_of x) l (λ e. omega arith)) (not_below l xs a.1)
 
 pub at_level_none : (l : ℕ) (xs : List BoundedTask) → taken level_of l xs ≡ false → at_level l xs ≡ no_task
 at_level_none l [] e = refl

@@ -6,13 +6,13 @@ use Rattle.std.specs.List.{AllByRecursion}
 use Rattle.analysis.specs.declared.task.BoundedTask.{BoundedTask}
 use Rattle.analysis.specs.Interference.{level_of, taken}
 use Rattle.analysis.specs.Kept.{Kept}
-use Rattle.analysis.proofs.Facts.{Above, LawfulCase, lawful_case}
+use Rattle.analysis.proofs.Facts.{Above, LawfulCase, lawful_case, taken_none}
 use Rattle.schedule.specs.Legal.{Legal}
 use Rattle.schedule.specs.Levels.{at_level, run_at}
 use Rattle.schedule.specs.Running.{slots_between}
 use Rattle.schedule.specs.Schedules.{Schedule}
 use Rattle.schedule.specs.Soundness.{Soundness, DeadlineSoundness, Punctual}
-use Rattle.schedule.proofs.ByLevel.{taken_append, taken_push, taken_last, taken_below, taken_above, not_below, at_level_none, at_level_here, by_level}
+use Rattle.schedule.proofs.ByLevel.{taken_append, taken_push, taken_last, taken_below, at_level_none, at_level_here, by_level}
 use Rattle.schedule.proofs.Interfering.{Known, keeps_bound}
 
 -- a kept task is less urgent than those above it
@@ -36,10 +36,10 @@ module _ (m : ℕ) (set : List BoundedTask) (start now : ℕ) (s : Schedule) (le
   walk above (i ∷ is) e k a =
       let l = level_of i in
       let case = lawful_case i.task above m i.bound k.0.fits in
-      let stands : at_level l set ≡ i = ap (at_level l) (sym e) ∙ at_level_here above is i (not_below l above (below m above i case)) in
+      let stands : at_level l set ≡ i = ap (at_level l) (sym e) ∙ at_level_here above is i (taken_none l above (All-weaker (λ j. level_of j < l) (λ j. level_of j ≡ l → ⊥) (λ j h f. omega arith) above (below m above i case))) in
       let empty : (u : ℕ) → u < l → taken level_of u above ≡ false → run_at set u ≡ 0 = λ u b t.
-      let after = All-weaker (λ j. l < level_of j) (λ j. u < level_of j) (λ j c. omega arith) is (later m l (above ++ i ∷ []) is (taken_last above i) k.1) in
-      ap (λ q. run_at q u) (sym e) ∙ ap (λ j. j.task.run) (at_level_none u (above ++ i ∷ is) (taken_append u above (i ∷ is) t ∙ taken_above u (i ∷ is) (b, after))) in
+      let after = All-weaker (λ j. l < level_of j) (λ j. level_of j ≡ u → ⊥) (λ j h f. omega arith) is (later m l (above ++ i ∷ []) is (taken_last above i) k.1) in
+      ap (λ q. run_at q u) (sym e) ∙ ap (λ j. j.task.run) (at_level_none u (above ++ i ∷ is) (taken_append u above (i ∷ is) t ∙ taken_none u (i ∷ is) (λ f. omega arith, after))) in
       let known = keeps_bound m set start now s legal i above case k.0.tested stands a empty in
       (known, walk (above ++ i ∷ []) is (append_assoc above (i ∷ []) is ∙ e) k.1 (All-push (Known set now s) above i a known))
 
