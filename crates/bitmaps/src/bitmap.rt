@@ -6,7 +6,7 @@ ghost use Rattle.queues.specs.Items.{level_before};
 ghost use Rattle.queues.specs.Sets.{has, insert, remove, first_of};
 
 use queues::level::Level;
-use queues::placed::Placed;
+use queues::put_error::PutError;
 use queues::queue::{Queue, WithdrawingQueue};
 
 /// A queue of levels: bit n stands for level n. Each call costs the same, whatever the set.
@@ -97,12 +97,12 @@ impl Queue for Bitmap {
         Some(level)
     }
 
-    fn put(&mut self, item: Level) -> Placed {
+    fn put(&mut self, item: Level) -> Result<(), PutError> {
         if self.is_set(item) {
-            return Placed::Held;
+            return Err(PutError::Held);
         }
         self.set(item);
-        Placed::Added
+        Ok(())
     }
 }
 

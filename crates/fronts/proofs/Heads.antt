@@ -2,8 +2,8 @@
 use Rattle.std.proofs.Common.{◌≡◌, ℕ, suc, Bool, true, false, cond, eqb, List, ◌∷◌, length, Some, Option, sym, refl, ap, ◌∙◌, subst, arith}
 use Rattle.queues.proofs.Laws.{asym, insert_ahead, ahead_insert, ahead_remove, ahead_trans, ahead_lacks, remove_none, sorted_insert, sorted_remove}
 use Rattle.queues.specs.Sets.{Lawful, has, insert, remove, Ahead, Sorted, put_answer, put_set}
-use Rattle.queues.specs.declared.placed.Placed.{Placed}
-use Rattle.queues.specs.declared.placed.Placed.TheVariants.{Added}
+use Rattle.queues.specs.declared.put_error.PutError.{PutError}
+use Rattle.std.specs.Prelude.{Ok, Result}
 use Rattle.std.proofs.lemmas.Bool.Decides.{nat_tests}
 use Rattle.fronts.specs.Fronts.{FrontGood, front_items}
 
@@ -48,7 +48,7 @@ module _ {X : Type 0} (b : X → X → Bool) (o : Lawful b) where
           grind arith
 
       -- the head found a place
-      pub before_added : Added ≡ put_answer b room head s → (x ∷ put_set b room head s ≡ put_set b (suc room) x (head ∷ s)) × (put_set b room head s ≡ head ∷ s)
+      pub before_added : Ok tt ≡ put_answer b room head s → (x ∷ put_set b room head s ≡ put_set b (suc room) x (head ∷ s)) × (put_set b room head s ≡ head ∷ s)
       before_added q =
           let l = head_lacked in
           let p = asym b o x head before in
@@ -58,7 +58,7 @@ module _ {X : Type 0} (b : X → X → Bool) (o : Lawful b) where
           (grind arith, grind arith)
 
       -- it found none
-      pub before_full : (Added ≡ put_answer b room head s → ⊥) → (head ∷ put_set b room head s ≡ put_set b (suc room) x (head ∷ s)) × (put_set b room head s ≡ s)
+      pub before_full : (Ok tt ≡ put_answer b room head s → ⊥) → (head ∷ put_set b room head s ≡ put_set b (suc room) x (head ∷ s)) × (put_set b room head s ≡ s)
       before_full q =
           let l = head_lacked in
           let p = asym b o x head before in
@@ -67,11 +67,11 @@ module _ {X : Type 0} (b : X → X → Bool) (o : Lawful b) where
           (grind arith, grind arith)
 
   -- what a put owes: good order, the answer and the set of the front, from those of the queue below
-  abbrev pub Owed : ℕ → X → Option X → Option X → List X → List X → Placed → Type 0
+  abbrev pub Owed : ℕ → X → Option X → Option X → List X → List X → Result (Unit {0}) PutError → Type 0
   Owed room x old new s t answer =
       FrontGood b old s → FrontGood b new t × (answer ≡ put_answer b (suc room) x (front_items old s)) × (front_items new t ≡ put_set b (suc room) x (front_items old s))
 
-  module _ (room : ℕ) (head x : X) (s t : List X) (answer : Placed) where
+  module _ (room : ℕ) (head x : X) (s t : List X) (answer : Result (Unit {0}) PutError) where
     pub put_behind : (old : Option X) → old ≡ Some head → true ≡ b head x → t ≡ put_set b room x s → answer ≡ put_answer b room x s → Owed room x old old s t answer
     put_behind old is after set told =
         subst (λ h. Owed room x h h s t answer) (sym is)
@@ -81,7 +81,7 @@ module _ {X : Type 0} (b : X → X → Bool) (o : Lawful b) where
         let y = behind_good room head x s a r (sym after) in
         (subst (λ u. Ahead b head u × Sorted b u) (sym set) y, told ∙ behind_answer room head x s a r (sym after), ap (λ u. head ∷ u) set ∙ behind_set room head x s a r (sym after)))
 
-    pub put_before : (old : Option X) → old ≡ Some head → true ≡ b x head → answer ≡ Added → t ≡ put_set b room head s → answer ≡ put_answer b room head s → Owed room x old (Some x) s t answer
+    pub put_before : (old : Option X) → old ≡ Some head → true ≡ b x head → answer ≡ Ok tt → t ≡ put_set b room head s → answer ≡ put_answer b room head s → Owed room x old (Some x) s t answer
     put_before old is before added set told =
         subst (λ h. Owed room x h (Some x) s t answer) (sym is)
         (λ good.
@@ -92,7 +92,7 @@ module _ {X : Type 0} (b : X → X → Bool) (o : Lawful b) where
         let u = set ∙ y.1 in
         (subst (λ v. Ahead b x v × Sorted b v) (sym u) ((p, ahead_trans b o x head s p a), (a, r)), told ∙ before_answer room head x s a r p, ap (λ v. x ∷ v) set ∙ y.0))
 
-    pub put_refused : (old : Option X) → old ≡ Some head → true ≡ b x head → (answer ≡ Added → ⊥) → t ≡ put_set b room head s → answer ≡ put_answer b room head s → Owed room x old old s t answer
+    pub put_refused : (old : Option X) → old ≡ Some head → true ≡ b x head → (answer ≡ Ok tt → ⊥) → t ≡ put_set b room head s → answer ≡ put_answer b room head s → Owed room x old old s t answer
     put_refused old is before not-added set told =
         subst (λ h. Owed room x h h s t answer) (sym is)
         (λ good.

@@ -4,7 +4,7 @@ ghost use Rattle.fronts.specs.Fronts.{FrontGood, front_items};
 ghost use Rattle.fronts.specs.Laws.{front_rises, front_within};
 
 use queues::order::Order;
-use queues::placed::Placed;
+use queues::put_error::PutError;
 use queues::queue::{Queue, WithdrawingQueue};
 use std::mem;
 
@@ -70,22 +70,20 @@ where
         mem::replace(&mut self.head, next)
     }
 
-    fn put(&mut self, item: Q::Item) -> Placed {
+    fn put(&mut self, item: Q::Item) -> Result<(), PutError> {
         let Some(head) = self.head else {
             self.head = Some(item);
-            return Placed::Added;
+            return Ok(());
         };
         if head.comes_before(&item) {
             return self.below.put(item);
         }
         if !item.comes_before(&head) {
-            return Placed::Held;
+            return Err(PutError::Held);
         }
-        let answer = self.below.put(head);
-        if let Placed::Added = answer {
-            self.head = Some(item);
-        }
-        answer
+        self.below.put(head)?;
+        self.head = Some(item);
+        Ok(())
     }
 }
 

@@ -6,7 +6,7 @@ pub mod extras;
 pub mod level;
 pub mod levels;
 pub mod order;
-pub mod placed;
+pub mod put_error;
 pub mod queue;
 pub mod sizes;
 pub mod wake_up;

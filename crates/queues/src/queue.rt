@@ -5,7 +5,7 @@ ghost use Rattle.std.specs.Prelude.{◌≡◌, ℕ, ◌≤◌, min, List, [], le
 ghost use Rattle.queues.specs.Sets.{has, remove, Sorted, first_of, rest_of, put_answer, put_set};
 
 use crate::order::Order;
-use crate::placed::Placed;
+use crate::put_error::PutError;
 
 /// A queue over one kind of item, the first one at its head.
 pub trait Queue {
@@ -43,7 +43,7 @@ pub trait Queue {
         ensures items { good self.old → items self.new ≡ rest_of (items self.old) };
 
     /// Adds an item; held where it is in the set already, else full where the set is as large as the capacity.
-    fn put(&mut self, item: Self::Item) -> Placed
+    fn put(&mut self, item: Self::Item) -> Result<(), PutError>
         ensures good { good self.old → good self.new }
         ensures room { room self.new ≡ room self.old }
         ensures answer { good self.old → result ≡ put_answer Self.Item.Order.before (room self.old) item (items self.old) }

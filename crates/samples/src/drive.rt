@@ -5,7 +5,7 @@ use crate::rng::Rng;
 use crate::tally::Tally;
 use anyhow::ensure;
 use fronts::front::Front;
-use queues::placed::Placed;
+use queues::put_error::PutError;
 use queues::queue::WithdrawingQueue;
 use std::alloc::{AllocError, Global};
 use std::collections::BTreeSet;
@@ -30,9 +30,9 @@ where
         let held = self.model.contains(&code);
         let full = self.model.len() >= self.room;
         match self.queue.put(item) {
-            Placed::Held => Ok(held),
-            Placed::Full => Ok(!held && full),
-            Placed::Added => Ok(self.model.insert(code)? && !full),
+            Err(PutError::Held) => Ok(held),
+            Err(PutError::Full) => Ok(!held && full),
+            Ok(()) => Ok(self.model.insert(code)? && !full),
         }
     }
 

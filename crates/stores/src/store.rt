@@ -5,7 +5,7 @@ ghost use Rattle.stores.specs.Within.{set_within};
 
 use crate::layout::Layout;
 use queues::order::Order;
-use queues::placed::Placed;
+use queues::put_error::PutError;
 use queues::queue::{Queue, WithdrawingQueue};
 use queues::sizes::capped;
 use std::marker::PhantomData;
@@ -110,13 +110,13 @@ impl<T: Order + Copy, L: Layout<T>> Queue for Store<'_, T, L> {
     }
 
     /// As many steps as it takes the layout to find the item and to let it in.
-    fn put(&mut self, item: T) -> Placed {
+    fn put(&mut self, item: T) -> Result<(), PutError> {
         match L::find(self.items(), &item) {
-            Ok(_) => Placed::Held,
-            Err(_) if self.len == self.cells.len() => Placed::Full,
+            Ok(_) => Err(PutError::Held),
+            Err(_) if self.len == self.cells.len() => Err(PutError::Full),
             Err(at) => {
                 self.enter(at, item);
-                Placed::Added
+                Ok(())
             }
         }
     }
