@@ -32,6 +32,7 @@ impl Task {
         ensures { result ≡ plain self.now window other.now }
     {
         let work = amount(other.task.run, other.task.gap, u32::from(window));
+        // Stays: at most the cap, so a conversion that is tested would add an arm that never runs.
         work.min(self.cap(window)) as u32
     }
 
@@ -43,6 +44,7 @@ impl Task {
         let end = u32::from(window) + u32::from(other.bound);
         let reach = end.saturating_sub(u32::from(other.task.run));
         let work = amount(other.task.run, other.task.gap, reach);
+        // Stays: as in `plain`, no arm for what is never too large.
         work.min(self.cap(window)) as u32
     }
 }

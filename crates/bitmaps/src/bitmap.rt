@@ -43,6 +43,7 @@ impl Bitmap {
         (self.bits >> level.number) & 1 == 1
     }
 
+    // Stays: `set` and `unset` differ in the operation, and to pass that in is no plainer than `|=` and `^=`.
     // Sets a level that is not set.
     fn set(&mut self, level: Level)
         requires { has level_before level (levels_in self.old.bits) ≡ false }

@@ -19,6 +19,7 @@ use rules::unbounded::NoBound;
 use std::alloc::{AllocError, Global};
 
 /// A row for each task of a sorted set: the task, its bound, and the rule's total at the bound.
+// Stays: rule and cores go through these three, and a struct of the two would be made for each call and used once.
 pub fn rows<R: CountingRule>(
     heap: Global,
     rule: &R,

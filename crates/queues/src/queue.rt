@@ -8,6 +8,7 @@ use crate::order::Order;
 use crate::put_error::PutError;
 
 /// A queue over one kind of item, the first one at its head.
+// Stays: `good` is asked in each promise and is no invariant of the type, since `clear` serves a queue in any state.
 pub trait Queue {
     type Item: Order;
 

@@ -39,14 +39,15 @@ where
     // Makes a call on both, and says whether they agree.
     fn make(&mut self, call: Call, item: W::Item) -> Result<bool, AllocError> {
         let model = &mut self.model;
+        // Stays: the calls answer different types, so a table of closures would have to bring them to one.
         match call {
             Call::Clear => {
                 self.queue.clear();
                 model.clear();
                 Ok(true)
             }
-            Call::Capacity => Ok(self.queue.capacity() as usize == self.room),
-            Call::Count => Ok(self.queue.count() as usize == model.len()),
+            Call::Capacity => Ok(usize::from(self.queue.capacity()) == self.room),
+            Call::Count => Ok(usize::from(self.queue.count()) == model.len()),
             Call::First => {
                 Ok(self.queue.first().map(|item| item.code()) == model.first().copied())
             }

@@ -4,6 +4,7 @@ ghost use Rattle.schedule.specs.Examples.{house, TogetherFacts, crowd, CrowdedFa
 
 use analysis::task::{BoundedTask, Task};
 
+// Stays: the two sets are data, and differ in nothing but their numbers.
 /// Three tasks that keep their bounds on 2 cores; all released at once they run for 4 slots.
 pub fn house_set() -> [BoundedTask; 3]
     ensures value { result ≡ house }

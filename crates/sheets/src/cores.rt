@@ -41,6 +41,7 @@ impl TryFrom<u16> for Cores {
 
     fn try_from(number: u16) -> Result<Cores, Fault> {
         match number {
+            // Stays: at most 8, so a conversion that is tested would add an arm that never runs.
             1..=8 => Ok(Cores {
                 number: number as u8,
             }),

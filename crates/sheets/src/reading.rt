@@ -28,6 +28,7 @@ pub enum ReadError {
     Line(LineFault),
 }
 
+// Stays: the library has two errors for want of memory, and an impl converts one of them.
 impl From<AllocError> for ReadError {
     ghost from_gives = { λ _ r. r ≡ Memory };
 

@@ -5,6 +5,7 @@ ghost use Rattle.stores.specs.Layouts.{Entered, Found, LayoutLaws, Left};
 use queues::order::Order;
 
 /// A way for the items of a set to stand in cells, all of which are in use. The cells hold no item twice.
+// Stays: `good` is a fact about cells that are lent for one call, so no type could keep it.
 pub trait Layout<T: Order> {
     ghost good: { List T → Type 0 };
 
