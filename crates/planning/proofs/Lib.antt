@@ -1,2 +1,4 @@
+pub mod Columns
 pub mod Judging
+pub mod Places
 pub mod Urgency
