@@ -15,26 +15,8 @@ mod tests {
 
     // The same tasks with level 30 first and level 10 next.
     fn mixed_house(deadline: u16) -> [Task; 3] {
-        [
-            Task {
-                level: 30,
-                run: 2,
-                deadline,
-                gap: 10,
-            },
-            Task {
-                level: 10,
-                run: 2,
-                deadline: 4,
-                gap: 5,
-            },
-            Task {
-                level: 20,
-                run: 3,
-                deadline: 6,
-                gap: 8,
-            },
-        ]
+        let [ten, twenty, thirty] = house(deadline);
+        [thirty, ten, twenty]
     }
 
     #[test]

@@ -1,16 +1,12 @@
 -- The text of the answer.
-use Rattle.std.specs.Prelude.{ℕ, ◌-◌, List, [], ◌∷◌, ◌++◌, length, Ok, Err, Result, replicate, codes, decimal}
+use Rattle.std.specs.Prelude.{ℕ, List, [], ◌∷◌, ◌++◌, Ok, Err, Result, codes, decimal}
 use Rattle.std.specs.List.{flat_map}
 use Rattle.planning.specs.Refusals.{number}
-use Rattle.planning.specs.Texts.{reason_text}
+use Rattle.planning.specs.Texts.{reason_text, row_text}
 use Rattle.planning.specs.declared.verdict.Row.{Row}
 use Rattle.planning.specs.declared.refusal.Refusal.{Refusal}
 use Rattle.sheets.specs.declared.entry.Rule.{Rule}
 use Rattle.sheets.specs.Texts.{rule_name}
-
--- n in decimal, to the right of a column of so many bytes
-abbrev pub right : ℕ → ℕ → List ℕ
-right width n = replicate (width - length (decimal n)) 32 ++ decimal n
 
 -- 2 cores, deadline rule
 abbrev pub heading_text : ℕ → Rule → List ℕ
@@ -18,11 +14,6 @@ heading_text cores rule = decimal cores ++ (codes " cores, " ++ (rule_name rule 
 
 abbrev pub columns_text : List ℕ
 columns_text = codes "level     C     D     T  total bound"
-
--- level, C, D, T, total and bound under the columns
-abbrev pub row_text : Row → List ℕ
-row_text r =
-    right 5 r.task.level ++ (right 6 r.task.run ++ (right 6 r.task.deadline ++ (right 6 r.task.gap ++ (right 7 r.total ++ right 6 r.bound))))
 
 abbrev pub verdict_text : Result (Unit {0}) Refusal → List ℕ
 verdict_text (Ok u) = codes "accepted"

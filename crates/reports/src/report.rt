@@ -1,13 +1,14 @@
 // The text of the answer.
 ghost use Rattle.std.specs.Prelude.{◌≡◌, ◌++◌, IfOk, string_bytes};
 ghost use Rattle.std.specs.List.{flat_map};
-ghost use Rattle.reports.specs.Report.{heading_text, row_text, verdict_text, line_feed, report_text};
+ghost use Rattle.planning.specs.Texts.{row_text};
+ghost use Rattle.reports.specs.Report.{heading_text, verdict_text, line_feed, report_text};
 
-use analysis::task::Task;
 use planning::verdict::{Plan, Row, Verdict};
 use sheets::entry::Rule;
 use std::alloc::{AllocError, Global};
 
+// Stays: cores and rule are two values of a sheet, and a type of the two would be made for this line alone.
 /// The cores and the rule, as `2 cores, deadline rule`.
 pub fn heading(heap: Global, cores: u8, rule: Rule) -> Result<String, AllocError>
     ensures { IfOk result (λ s. string_bytes s ≡ heading_text cores rule) }
@@ -19,16 +20,10 @@ pub fn heading(heap: Global, cores: u8, rule: Rule) -> Result<String, AllocError
 pub fn row_line(heap: Global, row: &Row) -> Result<String, AllocError>
     ensures { IfOk result (λ s. string_bytes s ≡ row_text row.now) }
 {
-    let Row { task, total, bound } = *row;
-    let Task {
-        level,
-        run,
-        deadline,
-        gap,
-    } = task;
-    format!(in heap; "{level:>5}{run:>6}{deadline:>6}{gap:>6}{total:>7}{bound:>6}")
+    format!(in heap; "{row}")
 }
 
+// Stays: a Result has no Display of its own, and a type made for one would only be a verdict again.
 /// The verdict on a task set: accepted, or the number of the refusal and the reason.
 pub fn verdict_line(heap: Global, verdict: &Verdict) -> Result<String, AllocError>
     ensures { IfOk result (λ s. string_bytes s ≡ verdict_text verdict.now) }
@@ -48,8 +43,7 @@ fn row_lines(heap: Global, rows: &[Row]) -> Result<String, AllocError>
 {
     let mut text = String::new(heap);
     for row in rows {
-        let line = row_line(heap, row)?;
-        writeln!(text, "{line}")?;
+        writeln!(text, "{row}")?;
     }
     Ok(text)
 }

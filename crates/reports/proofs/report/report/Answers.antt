@@ -1,7 +1,8 @@
 use Rattle.std.proofs.Common.{◌++◌, ap, ◌∙◌}
 use Rattle.std.specs.List.{flat_map}
 use Rattle.std.proofs.lemmas.Result.{IfOk-weaker}
-use Rattle.reports.specs.Report.{columns_text, line_feed, row_text}
+use Rattle.planning.specs.Texts.{row_text}
+use Rattle.reports.specs.Report.{columns_text, line_feed}
 use Rattle.reports.proofs.report.report.Goals as goal
 
 pub returns : goal.returns

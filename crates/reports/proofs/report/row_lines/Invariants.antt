@@ -1,6 +1,7 @@
 use Rattle.std.proofs.Common.{◌≡◌, ◌++◌, take, string_bytes}
 use Rattle.std.specs.List.{flat_map}
-use Rattle.reports.specs.Report.{row_text, line_feed}
+use Rattle.planning.specs.Texts.{row_text}
+use Rattle.reports.specs.Report.{line_feed}
 use Rattle.reports.proofs.report.row_lines.Given as goal
 
 abbrev pub invariant-loop-row : goal.invariant-loop-row

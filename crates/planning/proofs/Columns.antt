@@ -3,7 +3,7 @@ use Rattle.std.proofs.Common.{◌≡◌, ℕ, zero, suc, ◌-◌, ◌^◌, [], �
 use Rattle.std.specs.List.{repeat}
 use Rattle.std.proofs.lemmas.Str.{encode_ascii}
 use Rattle.std.specs.Fmt.{padded_integral, format_spec, styled_decimal, char_count}
-use Rattle.reports.specs.Report.{right}
+use Rattle.planning.specs.Texts.{right}
 
 repeat_one : (n : ℕ) → repeat {A = ℕ} n (32 ∷ []) ≡ replicate n 32
 repeat_one zero = refl
