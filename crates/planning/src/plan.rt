@@ -28,11 +28,7 @@ pub fn judge(heap: Global, cores: u8, set: &[BoundedTask]) -> Result<Plan, Alloc
 {
     let mut rows = Vec::new(heap);
     for (i, task) in set.iter().enumerate() {
-        let case = Case {
-            task: &task.task,
-            above: &set[..i],
-            cores,
-        };
+        let case = task.case(&set[..i], cores);
         let Some(row) = row(&case, task.bound) else {
             let verdict = Err(Refusal::NoBound(task.task.level));
             return Ok(Plan { rows, verdict });

@@ -8,7 +8,6 @@ ghost use Rattle.planning.specs.Published.{Judged};
 ghost use Rattle.rules.specs.Bounds.{rebound, rebound_set, tasks_of};
 ghost use Rattle.rules.specs.Rules.{deadline};
 
-use analysis::case::Case;
 use analysis::task::{BoundedTask, Task};
 use planning::admission::{Stop, admit};
 use planning::refusal::Refusal;
@@ -19,7 +18,7 @@ use rules::unbounded::NoBound;
 use std::alloc::{AllocError, Global};
 
 /// A row for each task of a sorted set: the task, its bound, and the rule's total at the bound.
-// Stays: rule and cores go through these three, and a struct of the two would be made for each call and used once.
+// Stays: no plainer with a struct of rule and cores, which `rebound` and a case would take apart again.
 pub fn rows<R: CountingRule>(
     heap: Global,
     rule: &R,
@@ -30,11 +29,7 @@ pub fn rows<R: CountingRule>(
 {
     let mut rows = Vec::new(heap);
     for (i, task) in set.iter().enumerate() {
-        let case = Case {
-            task: &task.task,
-            above: &set[..i],
-            cores,
-        };
+        let case = task.case(&set[..i], cores);
         let total = rule.total(&case, task.bound);
         rows.push(Row {
             task: task.task,

@@ -12,12 +12,10 @@ impl Level {
     pub fn new(number: u16) -> Option<Level>
         ensures { result ≡ new_level number }
     {
-        if number > 63 {
-            return None;
+        match u8::try_from(number) {
+            Ok(number) if number <= 63 => Some(Level { number }),
+            _ => None,
         }
-        Some(Level {
-            number: number as u8,
-        })
     }
 }
 

@@ -6,11 +6,11 @@ ghost use Rattle.rules.specs.Bounds.{rebound, rebound_answer, rebound_set, Rebou
 use crate::rule::CountingRule;
 use crate::search::search;
 use crate::unbounded::NoBound;
-use analysis::case::Case;
 use analysis::task::BoundedTask;
 
 /// Works out the bound of each task from a place on, most urgent first, with the bounds just found. The first task that has
 /// no bound is told; it and the tasks behind it are left as they were.
+// Stays: no plainer with a struct of cores and set, since the set is changed in place and read again by who lent it.
 pub fn rebound<R: CountingRule>(
     rule: &R,
     cores: u8,
@@ -24,14 +24,13 @@ pub fn rebound<R: CountingRule>(
 {
     // Stays: each turn reads the tasks before the place and writes the one there, which no iterator lends together.
     for place in from..set.len() {
-        let task = set[place].task;
-        let case = Case {
-            task: &task,
-            above: &set[..place],
-            cores,
+        let task = set[place];
+        let case = task.case(&set[..place], cores);
+        // Stays: a rule of the project, that a task with no bound is told in the `else` of its search.
+        let Some(bound) = search(rule, &case) else {
+            let level = task.task.level;
+            return Err(NoBound { place, level });
         };
-        let level = task.level;
-        let bound = search(rule, &case).ok_or(NoBound { place, level })?;
         set[place].bound = bound;
     }
     Ok(())

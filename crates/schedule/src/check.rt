@@ -22,11 +22,7 @@ pub fn keeps_bounds(cores: u8, set: &[BoundedTask]) -> bool
     ensures punctual { result ≡ true → Punctual cores set.now }
 {
     set.iter().enumerate().all(|(place, bounded)| {
-        let case = Case {
-            task: &bounded.task,
-            above: &set[..place],
-            cores,
-        };
+        let case = bounded.case(&set[..place], cores);
         holds(&case, bounded.bound)
     })
 }

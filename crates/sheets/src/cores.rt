@@ -25,6 +25,7 @@ impl Model for Cores {
 
 impl Cores {
     /// How many they are.
+    // Stays: a From would not tell the limits.
     pub fn number(self) -> u8
         ensures number { result ≡ self }
         ensures some { 1 ≤ self }
@@ -40,11 +41,8 @@ impl TryFrom<u16> for Cores {
     ghost try_from_gives = { λ number r. r ≡ cores_of number };
 
     fn try_from(number: u16) -> Result<Cores, Fault> {
-        match number {
-            // Stays: at most 8, so a conversion that is tested would add an arm that never runs.
-            1..=8 => Ok(Cores {
-                number: number as u8,
-            }),
+        match u8::try_from(number) {
+            Ok(number) if 1 <= number && number <= 8 => Ok(Cores { number }),
             _ => Err(Fault::BadCores),
         }
     }

@@ -4,7 +4,8 @@ use Rattle.queues.specs.Items.{level_at}
 use Rattle.queues.specs.Orders.{same_level}
 use Rattle.queues.proofs.level.Level.new.Goals as goal
 
-pub returns : goal.returns
-returns c =
-    ap Some (same_level _ (level_at c.args.number) (omega arith))
-    ∙ sym (cond-false _ None (Some (level_at c.args.number)) (le-ltb 63 c.args.number (omega arith)))
+pub returns-in-Ok : goal.returns-in-Ok
+returns-in-Ok c =
+    let is = c.in-Ok.ensures in
+    ap Some (same_level _ (level_at c.args.number) (omega (arith, is)))
+    ∙ sym (cond-false _ None (Some (level_at c.args.number)) (le-ltb 63 c.args.number (omega (arith, is))))
