@@ -56,6 +56,6 @@ numbers_fit k count m x =
 unfoldable pub lawful : Task → List BoundedTask → ℕ → ℕ → Bool
 lawful k others m x = numbers_fit k (length others) m x && (all_above k others && distinct level_of others)
 
--- the rule's total: elsewhere it is so large that nothing passes
+-- the rule's total: elsewhere it is as large as 32 bits hold
 abbrev pub total : Task → List BoundedTask → ℕ → ℕ → ℕ
 total k others m x = cond (lawful k others m x) (interference k others m x) 4294967295

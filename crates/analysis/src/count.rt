@@ -30,6 +30,7 @@ fn take_largest<Q: Queue<Item = Extra>>(queue: &mut Q, most: u8) -> u32
     requires fits { amounts (Q.Queue.items queue.old) < 2 ^ 32 }
     ensures { result ≡ amounts (take most (Q.Queue.items queue.old)) }
 {
+    // Stays: no plainer as a chain, whose closure would change the queue that the promise is about.
     let mut sum = 0;
     for _ in 0..most {
         let Some(extra) = queue.take() else {
@@ -68,7 +69,7 @@ impl Case<'_> {
         ensures laws { InterferenceLaws self.now.task.now self.now.above.now self.now.cores window }
     {
         if !self.is_lawful(window) {
-            // Stays: a total that cannot fail is what is published, and an Option is no plainer than a value that passes nowhere.
+            // Stays: a rule of the project, which publishes this total, and a function that cannot fail stays one.
             return u32::MAX;
         }
         // Stays: the queue stands on an array of this call, since there is no heap to take memory from.

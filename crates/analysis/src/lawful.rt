@@ -20,7 +20,8 @@ fn levels_differ(tasks: &[BoundedTask]) -> bool
     requires { AllByRecursion (λ i. level_of i ≤ 63) tasks.now }
     ensures { result ≡ distinct level_of tasks.now }
 {
-    // Stays: with no heap the levels seen are marks in an array and not a set.
+    // Stays: no plainer with a bitmap, in which each level would first be made, and whose `put` could fail in two ways; nor as
+    // a chain, whose closure would change the marks that it tests.
     let mut seen = [false; 64];
     for task in tasks {
         let level = usize::from(task.task.level);

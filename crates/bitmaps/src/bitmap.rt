@@ -18,6 +18,7 @@ pub struct Bitmap {
 
 impl Bitmap {
     /// The empty set.
+    // Stays: a derived Default would promise nothing of the set.
     pub fn new() -> Bitmap
         ensures good { result.bits < 2 ^ 64 }
         ensures items { levels_in result.bits ≡ [] }

@@ -8,7 +8,7 @@ use crate::order::Order;
 use crate::put_error::PutError;
 
 /// A queue over one kind of item, the first one at its head.
-// Stays: `good` is asked in each promise and is no invariant of the type, since `clear` serves a queue in any state.
+// Stays: a rule of the project, whose contract speaks of a queue in any state, and of `clear` that brings it into good order.
 pub trait Queue {
     type Item: Order;
 

@@ -16,13 +16,14 @@ impl CountingRule for AllCarryRule {
 
     ghost laws = { λ _. standard_lawful AllCarry };
 
+    // Stays: as in the deadline rule.
     fn first_window(&self, case: &Case) -> u16 {
         case.task.deadline
     }
 
     fn total(&self, case: &Case, window: u16) -> u32 {
         if !case.is_lawful(window) {
-            // Stays: a total that cannot fail is what is published, and an Option is no plainer than a value that passes nowhere.
+            // Stays: a rule of the project, which publishes this total, and a function that cannot fail stays one.
             return u32::MAX;
         }
         sum_carried(case, window)

@@ -19,6 +19,7 @@ impl CountingRule for ResponseRule {
         case.task.run
     }
 
+    // Stays: as in the deadline rule.
     fn total(&self, case: &Case, window: u16) -> u32 {
         case.total(window)
     }

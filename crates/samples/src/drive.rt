@@ -39,7 +39,7 @@ where
     // Makes a call on both, and says whether they agree.
     fn make(&mut self, call: Call, item: W::Item) -> Result<bool, AllocError> {
         let model = &mut self.model;
-        // Stays: the calls answer different types, so a table of closures would have to bring them to one.
+        // Stays: no plainer; a table of closures would repeat each arm and add a look-up, and the match is checked to be whole.
         match call {
             Call::Clear => {
                 self.queue.clear();

@@ -32,6 +32,7 @@ fn drive_over_memory<T: Sample + Order + Clone + Copy>(
 
 // The ready queue of the hub.
 fn drive_ready(driver: &mut Driver) -> anyhow::Result<()> {
+    // Stays: the hub's own ready queue stands on an array, as it has no heap.
     let mut cells = [Level { number: 0 }; 32];
     let mut queue: ReadyQueue = Front::new(Heap::new(&mut cells));
     driver.drive(&mut queue, 33)

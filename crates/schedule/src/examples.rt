@@ -4,7 +4,8 @@ ghost use Rattle.schedule.specs.Examples.{house, TogetherFacts, crowd, CrowdedFa
 
 use analysis::task::{BoundedTask, Task};
 
-// Stays: the two sets are data, and differ in nothing but their numbers.
+// Stays: no plainer; the sets are data, of three tasks and of two, each with facts of its own, and one function would take
+// every number as an argument.
 /// Three tasks that keep their bounds on 2 cores; all released at once they run for 4 slots.
 pub fn house_set() -> [BoundedTask; 3]
     ensures value { result ≡ house }

@@ -72,7 +72,7 @@ pub fn entry_of(words: &[&str]) -> Result<Entry, Fault>
 }
 
 /// What a line says. One that begins with # says nothing.
-// Stays: no plainer, since an error enum of memory or fault would be a twin of `ReadError` that lacks the line's number.
+// Stays: no plainer in one error enum, which the caller would take apart again: it hands on the one, and gives a line to the other.
 pub fn line_entry(heap: Global, line: &str) -> Result<Result<Entry, Fault>, AllocError>
     ensures { IfOk result (λ e. e ≡ line_entry line.now) }
 {

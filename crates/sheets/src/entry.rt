@@ -10,6 +10,7 @@ use std::fmt;
 use std::str::FromStr;
 
 /// The rule by which a task set is checked.
+// Stays: `StandardRule` has rules that no sheet may name, and a type that holds them would say more than was read.
 #[derive(Clone, Copy, PartialEq, Eq, Debug)]
 pub enum Rule {
     Deadline,

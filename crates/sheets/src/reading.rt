@@ -20,6 +20,7 @@ pub struct Sheet {
 }
 
 /// Why a sheet was not read.
+// Stays: no plainer as an enum of memory or any error, whose `From` for that error would overlap with those for memory.
 #[derive(Clone, Copy, PartialEq, Eq, Debug)]
 pub enum ReadError {
     /// There was no memory for it.
@@ -28,7 +29,7 @@ pub enum ReadError {
     Line(LineFault),
 }
 
-// Stays: the library has two errors for want of memory, and an impl converts one of them.
+// Stays: no plainer, since the library has two errors for want of memory, and an impl converts one of them.
 impl From<AllocError> for ReadError {
     ghost from_gives = { λ _ r. r ≡ Memory };
 

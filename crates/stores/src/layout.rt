@@ -5,7 +5,7 @@ ghost use Rattle.stores.specs.Layouts.{Entered, Found, LayoutLaws, Left};
 use queues::order::Order;
 
 /// A way for the items of a set to stand in cells, all of which are in use. The cells hold no item twice.
-// Stays: `good` is a fact about cells that are lent for one call, so no type could keep it.
+// Stays: no plainer; `enter` begins with cells that are not good yet, so a type would be undone and made again in each call.
 pub trait Layout<T: Order> {
     ghost good: { List T → Type 0 };
 

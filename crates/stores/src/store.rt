@@ -11,7 +11,8 @@ use queues::sizes::capped;
 use std::marker::PhantomData;
 
 /// A queue that holds its items in the first cells of the memory that it is given, as the layout has them stand.
-// Stays: the memory is the caller's, and there is no heap to take a Vec from.
+// Stays: the memory is the caller's, and there is no heap to take a Vec from. A model in place of the two fields in clauses
+// would have to show the room beside the items, and be no plainer.
 #[derive(Drop)]
 pub struct Store<'a, T, L> {
     cells: &'a mut [T],
