@@ -24,6 +24,7 @@ impl Order for Extra {
     ghost laws = { extra_lawful };
 
     fn comes_before(&self, other: &Extra) -> bool {
-        (other.amount, self.level) < (self.amount, other.level)
+        // Stays: by tuples, or by an `Ordering`, a heap of extras takes twice the time, since two tests do not fold into one.
+        self.amount > other.amount || self.amount == other.amount && self.level < other.level
     }
 }
