@@ -17,7 +17,7 @@ use Rattle.analysis.specs.declared.task.BoundedTask.{BoundedTask}
 use Rattle.analysis.specs.Counting.{Countable, extras, amounts}
 use Rattle.analysis.specs.Interference.{extra, lawful, taken, distinct, level_of, sum_largest}
 use Rattle.analysis.specs.Work.{plain}
-use Rattle.analysis.proofs.Facts.{Above, lawful_case}
+use Rattle.analysis.proofs.Facts.{Above, LawfulCase, lawful_case}
 use Rattle.analysis.proofs.Largest.{Falls, best, sum_sorted, largest_best}
 
 module _ {X : Type 0} (level : X → ℕ) where
@@ -111,12 +111,14 @@ module _ (k : Task) (x : ℕ) where
       ∙ sym (largest_best n (map (extra k x) others))
 
   -- in a lawful case all can be counted
-  pub countable_from : (others : List BoundedTask) (m : ℕ) → lawful k others m x ≡ true → Countable k x others
-  countable_from others m e =
-      let c = lawful_case k others m x e in
+  pub countable_case : (others : List BoundedTask) (m : ℕ) → LawfulCase k others m x → Countable k x others
+  countable_case others m c =
       record {
         few = c.few;
         small = let l = c.limits in let a = c.low in let b = c.high in omega arith;
         levels = All-weaker (Above k) (λ i. level_of i ≤ 63) (λ i a. a.limits.level) others c.each;
         apart = c.apart;
       }
+
+  pub countable_from : (others : List BoundedTask) (m : ℕ) → lawful k others m x ≡ true → Countable k x others
+  countable_from others m e = countable_case others m (lawful_case k others m x e)
