@@ -18,7 +18,7 @@ use Rattle.plans.specs.Plans.{row_of, rows_from, verdict_on, plan_rows, plan_ver
 use Rattle.plans.proofs.Plans.{tasks_deadline}
 
 -- a row for one task more
-rows_push : (r : Rule) (m : ℕ) (above is : List BoundedTask) (i : BoundedTask) → rows_from r m above (is ++ i ∷ []) ≡ rows_from r m above is ++ row_of r m (above ++ is) i ∷ []
+pub rows_push : (r : Rule) (m : ℕ) (above is : List BoundedTask) (i : BoundedTask) → rows_from r m above (is ++ i ∷ []) ≡ rows_from r m above is ++ row_of r m (above ++ is) i ∷ []
 rows_push r m above [] i = ap (λ a. row_of r m a i ∷ []) (sym (append-nil above))
 rows_push r m above (j ∷ is) i =
     ap (λ rs. row_of r m above j ∷ rs) (rows_push r m (above ++ j ∷ []) is i)

@@ -13,8 +13,9 @@ use planning::admission::{Stop, admit};
 use planning::refusal::Refusal;
 use planning::verdict::{Plan, Row};
 use rules::bounds::rebound;
+use rules::passing::Passing;
 use rules::rule::CountingRule;
-use rules::unbounded::NoBound;
+use rules::search::search_counted;
 use std::alloc::{AllocError, Global};
 
 /// A row for each task of a sorted set: the task, its bound, and the rule's total at the bound.
@@ -54,18 +55,29 @@ pub fn judge<R: CountingRule>(
     ensures deadline_rows { IfOk result (λ p. R.CountingRule.rule rule.now ≡ deadline → p.rows.items ≡ tested.rows_from cores [] (all_at_deadline (tasks_of set.old))) }
     ensures deadline_verdict { IfOk result (λ p. R.CountingRule.rule rule.now ≡ deadline → p.verdict ≡ tested.verdict_from cores [] (all_at_deadline (tasks_of set.old))) }
 {
-    match rebound(rule, cores, set, 0) {
-        Ok(()) => {
-            let rows = rows(heap, rule, cores, set)?;
-            let verdict = Ok(());
-            Ok(Plan { rows, verdict })
-        }
-        Err(NoBound { place, level }) => {
-            let rows = rows(heap, rule, cores, &set[..place])?;
-            let verdict = Err(Refusal::NoBound(level));
-            Ok(Plan { rows, verdict })
+    let mut rows = Vec::new(heap);
+    // Stays: the loop of `rebound`, with a row for each task: made after it, a row would have its total counted again.
+    for place in 0..set.len() {
+        let bounded = set[place];
+        let case = bounded.case(&set[..place], cores);
+        let Some(Passing { window, total }) = search_counted(rule, &case) else {
+            let verdict = Err(Refusal::NoBound(bounded.task.level));
+            return Ok(Plan { rows, verdict });
+        };
+        set[place].bound = window;
+        let row = Row {
+            task: bounded.task,
+            total,
+            bound: window,
+        };
+        if rows.push(row).is_err() {
+            // The bounds of the other tasks are worked out all the same.
+            let _ = rebound(rule, cores, set, place + 1);
+            return Err(AllocError);
         }
     }
+    let verdict = Ok(());
+    Ok(Plan { rows, verdict })
 }
 
 /// Checks a list of tasks, in any order, by a rule on so many cores (fewer than 1 count as 1, more than 8 as 8): the rows of

@@ -1,5 +1,5 @@
 -- The search finds the least number that passes. Assumes nothing.
-use Rattle.std.proofs.Common.{◌≡◌, ℕ, zero, suc, ◌+◌, ◌-◌, ◌<◌, ◌≤◌, Bool, true, false, cond, List, [], ◌∷◌, Some, None, Option, refl, sym, ap, ◌∙◌, add-one, subst, ⊎_elim, arith}
+use Rattle.std.proofs.Common.{◌≡◌, ℕ, zero, suc, ◌+◌, ◌-◌, ◌<◌, ◌≤◌, Bool, true, false, cond, List, [], ◌∷◌, map, Some, None, Option, option_map, refl, sym, ap, ◌∙◌, add-one, subst, ⊎_elim, arith}
 use Rattle.std.specs.List.{find, range_with_len}
 use Rattle.std.specs.declared.ops.RangeInclusive.{RangeInclusive}
 use Rattle.std.specs.Range.{range_inclusive_start, range_inclusive_end, range_inclusive_exhausted, range_inclusive_len, range_inclusive_left}
@@ -11,7 +11,9 @@ use Rattle.std.proofs.lemmas.Bool.{cases_lt}
 use Rattle.analysis.specs.declared.task.Task.{Task}
 use Rattle.analysis.specs.declared.task.BoundedTask.{BoundedTask}
 use Rattle.rules.specs.Rules.{Rule}
-use Rattle.rules.specs.Search.{least, Least, IsBound, bound_of, passes_by}
+use Rattle.analysis.specs.Interference.{passes}
+use Rattle.rules.specs.declared.passing.Passing.{Passing}
+use Rattle.rules.specs.Search.{least, Least, IsBound, bound_of, passes_by, counted, counted_bound}
 
 module _ (p : ℕ → Bool) where
   -- one number that does not pass, before the others
@@ -100,3 +102,39 @@ pub find_least : (p : ℕ → Bool) (n x : ℕ) → find p (range_with_len x n) 
 unfolding least
 find_least p zero x = refl
 find_least p (suc n) x = ap (cond (p x) (Some x)) (ap (λ y. find p (range_with_len y n)) (add-one x) ∙ find_least p n (suc x))
+
+-- the first item of a changed list that has a property is the first that has it when changed
+find_mapped : {A B : Type 0} (p : B → Bool) (h : A → B) (xs : List A) → find p (map h xs) ≡ option_map h (find (λ x. p (h x)) xs)
+find_mapped p h [] = refl
+find_mapped p h (x ∷ xs) = split (p (h x)) (find_mapped p h xs)
+  where
+    split : (t : Bool) → find p (map h xs) ≡ option_map h (find (λ y. p (h y)) xs) → cond t (Some (h x)) (find p (map h xs)) ≡ option_map h (cond t (Some x) (find (λ y. p (h y)) xs))
+    split true e = refl
+    split false e = e
+
+-- the first counted window that passes is the bound with its total
+pub find_counted :
+    (r : Rule) (k : Task) (above : List BoundedTask) (m n x : ℕ) →
+    find (λ (q : Passing). passes k m q.window q.total) (map (counted r k above m) (range_with_len x n)) ≡ option_map (counted r k above m) (least (passes_by r k above m) n x)
+find_counted r k above m n x =
+    find_mapped (λ (q : Passing). passes k m q.window q.total) (counted r k above m) (range_with_len x n)
+    ∙ ap (option_map (counted r k above m)) (find_least (passes_by r k above m) n x)
+
+-- a counted bound is the bound with its total
+module _ (r : Rule) (k : Task) (above : List BoundedTask) (m : ℕ) where
+  pub counted_some : (p : Passing) → counted_bound r k above m ≡ Some p → (bound_of r k above m ≡ Some p.window) × (p.total ≡ r.total k above m p.window)
+  counted_some p = split (bound_of r k above m)
+    where
+      split : (o : Option ℕ) → option_map (counted r k above m) o ≡ Some p → (o ≡ Some p.window) × (p.total ≡ r.total k above m p.window)
+      split (Some x) e =
+          let q : counted r k above m x ≡ p = cc in
+          let w : x ≡ p.window = ap (λ (s : Passing). s.window) q in
+          (ap Some w, sym (ap (λ (s : Passing). s.total) q) ∙ ap (r.total k above m) w)
+      split None e = let z : ◌≡◌ {A = ℕ} 0 1 = cc in absurd (omega arith)
+
+  pub counted_none : counted_bound r k above m ≡ None → bound_of r k above m ≡ None
+  counted_none = split (bound_of r k above m)
+    where
+      split : (o : Option ℕ) → option_map (counted r k above m) o ≡ None → o ≡ None
+      split (Some x) e = let z : ◌≡◌ {A = ℕ} 0 1 = cc in absurd (omega arith)
+      split None e = refl

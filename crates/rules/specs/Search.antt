@@ -1,8 +1,9 @@
 -- The bound of a task: the least window, from the rule's first up to the deadline, that passes with the rule's total.
-use Rattle.std.specs.Prelude.{◌≡◌, ℕ, zero, suc, ◌+◌, ◌-◌, ◌<◌, ◌≤◌, Bool, true, false, cond, List, Some, None, Option}
+use Rattle.std.specs.Prelude.{option_map, ◌≡◌, ℕ, zero, suc, ◌+◌, ◌-◌, ◌<◌, ◌≤◌, Bool, true, false, cond, List, Some, None, Option}
 use Rattle.analysis.specs.declared.task.Task.{Task}
 use Rattle.analysis.specs.declared.task.BoundedTask.{BoundedTask}
 use Rattle.analysis.specs.Interference.{passes}
+use Rattle.rules.specs.declared.passing.Passing.{Passing}
 use Rattle.rules.specs.Rules.{Rule}
 
 -- the least of the n numbers from x on for which p holds
@@ -17,6 +18,14 @@ passes_by r k above m x = passes k m x (r.total k above m x)
 abbrev pub bound_of : Rule → Task → List BoundedTask → ℕ → Option ℕ
 bound_of r k above m =
     least (passes_by r k above m) (k.deadline + 1 - r.first k above m) (r.first k above m)
+
+-- a window of task k with the rule's total for it
+abbrev pub counted : Rule → Task → List BoundedTask → ℕ → ℕ → Passing
+counted r k above m x = record { window = x; total = r.total k above m x }
+
+-- the bound with the rule's total for it
+abbrev pub counted_bound : Rule → Task → List BoundedTask → ℕ → Option Passing
+counted_bound r k above m = option_map (counted r k above m) (bound_of r k above m)
 
 -- x is the least number from `first` to `last` for which p holds
 pub record IsLeast (p : ℕ → Bool) (first last x : ℕ) : Type 0 where

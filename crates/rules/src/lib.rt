@@ -6,6 +6,7 @@ pub mod bounds;
 mod carry;
 pub mod deadline;
 pub mod house;
+pub mod passing;
 pub mod response;
 pub mod rule;
 pub mod search;
