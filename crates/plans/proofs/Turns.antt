@@ -1,13 +1,13 @@
 -- One turn of the check of a set, and how it ends. Assumes nothing.
 use Rattle.std.proofs.Common.{◌≡◌, ℕ, ◌+◌, ◌<◌, ◌≤◌, List, [], ◌∷◌, ◌++◌, length, get_or, take, drop, set, None, Ok, Err, sym, ap, ◌∙◌}
-use Rattle.std.proofs.lemmas.List.{drop_more, take_more_set, take_all, drop_all}
+use Rattle.std.proofs.lemmas.List.{take_more_set, take_all}
 use Rattle.planning.specs.declared.refusal.Refusal.TheVariants.{NoBound}
 use Rattle.analysis.specs.declared.task.BoundedTask.{BoundedTask}
 use Rattle.analysis.specs.Interference.{level_of}
 use Rattle.rules.specs.Bounds.{Rebound, rebound, with_bound}
 use Rattle.rules.specs.Rules.{Rule}
 use Rattle.rules.specs.Search.{bound_of}
-use Rattle.rules.proofs.Rebounds.{rebound_none}
+use Rattle.rules.proofs.Rebounds.{rebound_stopped, rebound_ended}
 use Rattle.plans.specs.Plans.{row_of, rows_from, verdict_on}
 use Rattle.plans.proofs.Deadline.{rows_push}
 
@@ -29,7 +29,7 @@ module _ (r : Rule) (m : ℕ) where
         bound_of r here.task (take place set₀) m ≡ None →
         (take place set₀ ≡ o.done) × (Err (NoBound (level_of here)) ≡ verdict_on o.left)
     turn_refused o e none =
-        let f = e ∙ ap (rebound r m (take place set₀)) (drop_more set₀ place d inside) ∙ rebound_none r m (take place set₀) here (drop (place + 1) set₀) none in
+        let f = rebound_stopped r m set₀ place d inside o e none in
         (sym (ap (λ q. q.done) f), sym (ap (λ q. verdict_on q.left) f))
 
   -- all are done, and none is left
@@ -38,7 +38,6 @@ module _ (r : Rule) (m : ℕ) where
       length set₀ ≤ place →
       o ≡ rebound r m (take place set₀) (drop place set₀) →
       (take place set₀ ≡ o.done) × (Ok tt ≡ verdict_on o.left)
-  unfolding rebound
   turns_done o set₀ place l e =
-      let f = e ∙ (λ j. rebound r m (take_all place set₀ l j) (drop_all place set₀ l j)) in
+      let f = rebound_ended r m o set₀ place l e in
       (take_all place set₀ l ∙ sym (ap (λ q. q.done) f), sym (ap (λ q. verdict_on q.left) f))

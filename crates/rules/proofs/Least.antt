@@ -13,7 +13,7 @@ use Rattle.analysis.specs.declared.task.BoundedTask.{BoundedTask}
 use Rattle.rules.specs.Rules.{Rule}
 use Rattle.analysis.specs.Interference.{passes}
 use Rattle.rules.specs.declared.passing.Passing.{Passing}
-use Rattle.rules.specs.Search.{least, Least, IsBound, bound_of, passes_by, counted, counted_bound}
+use Rattle.rules.specs.Search.{least, Least, IsBound, bound_of, passes_by, counted, counted_bound, window_of}
 
 module _ (p : ℕ → Bool) where
   -- one number that does not pass, before the others
@@ -131,6 +131,14 @@ module _ (r : Rule) (k : Task) (above : List BoundedTask) (m : ℕ) where
           let w : x ≡ p.window = ap (λ (s : Passing). s.window) q in
           (ap Some w, sym (ap (λ (s : Passing). s.total) q) ∙ ap (r.total k above m) w)
       split None e = let z : ◌≡◌ {A = ℕ} 0 1 = cc in absurd (omega arith)
+
+  -- and the window is the bound
+  pub counted_least : (o : Option Passing) → o ≡ counted_bound r k above m → IsBound r k above m (window_of o)
+  counted_least o e = bound_found r k above m (window_of o) (sym (ap window_of e ∙ back (bound_of r k above m)))
+    where
+      back : (x : Option ℕ) → window_of (option_map (counted r k above m) x) ≡ x
+      back (Some x) = refl
+      back None = refl
 
   pub counted_none : counted_bound r k above m ≡ None → bound_of r k above m ≡ None
   counted_none = split (bound_of r k above m)

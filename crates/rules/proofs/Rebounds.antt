@@ -108,7 +108,14 @@ module _ (r : Rule) (m : ℕ) where
         ∙ rebound_some (take place set₀) here (drop (place + 1) set₀) x e
         ∙ (λ j. rebound r m (sym (take_more_set set₀ place (with_bound here x) inside) j) (sym (drop-set-lt (place + 1) set₀ place (with_bound here x) (omega arith)) j))
 
-    -- a task without a bound ends the loop
+    -- from a task without a bound on, all are left as they were
+    pub rebound_stopped : (o : Rebound) → o ≡ rebound r m (take place set₀) (drop place set₀) → bound_of r here.task (take place set₀) m ≡ None → o ≡ record { done = take place set₀; left = here ∷ drop (place + 1) set₀ }
+    rebound_stopped o e none =
+        e
+        ∙ ap (rebound r m (take place set₀)) (drop_more set₀ place d inside)
+        ∙ rebound_none (take place set₀) here (drop (place + 1) set₀) none
+
+    -- so it ends the loop
     pub rebound_stop :
         (o : Rebound) →
         o ≡ rebound r m (take place set₀) (drop place set₀) →
@@ -117,18 +124,21 @@ module _ (r : Rule) (m : ℕ) where
     rebound_stop o e none =
         let front = take place set₀ in
         let rest = drop_more set₀ place d inside in
-        let f = e ∙ ap (rebound r m front) rest ∙ rebound_none front here (drop (place + 1) set₀) none in (
+        let f = rebound_stopped o e none in (
           sym (ap rebound_answer f ∙ ap (λ n. Err (record { place = n; level = level_of here })) (length-take-le place set₀ (omega arith))),
           sym (ap rebound_set f ∙ ap (λ is. front ++ is) (sym rest) ∙ take-append-drop place set₀),
         )
 
-  -- every task has a bound
+  -- every task has a bound: none is left
+  pub rebound_ended : (o : Rebound) (set₀ : List BoundedTask) (place : ℕ) → length set₀ ≤ place → o ≡ rebound r m (take place set₀) (drop place set₀) → o ≡ record { done = set₀; left = [] }
+  unfolding rebound
+  rebound_ended o set₀ place l e = e ∙ (λ j. rebound r m (take_all place set₀ l j) (drop_all place set₀ l j))
+
   pub rebound_end :
       (o : Rebound) (set₀ : List BoundedTask) (place : ℕ) →
       length set₀ ≤ place →
       o ≡ rebound r m (take place set₀) (drop place set₀) →
       (Ok tt ≡ rebound_answer o) × (set₀ ≡ rebound_set o)
-  unfolding rebound
   rebound_end o set₀ place l e =
-      let f = e ∙ (λ j. rebound r m (take_all place set₀ l j) (drop_all place set₀ l j)) in
+      let f = rebound_ended o set₀ place l e in
       (sym (ap rebound_answer f), sym (ap rebound_set f ∙ append-nil set₀))

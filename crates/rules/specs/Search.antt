@@ -1,5 +1,5 @@
 -- The bound of a task: the least window, from the rule's first up to the deadline, that passes with the rule's total.
-use Rattle.std.specs.Prelude.{option_map, ◌≡◌, ℕ, zero, suc, ◌+◌, ◌-◌, ◌<◌, ◌≤◌, Bool, true, false, cond, List, Some, None, Option}
+use Rattle.std.specs.Prelude.{◌≡◌, ℕ, zero, suc, ◌+◌, ◌-◌, ◌<◌, ◌≤◌, Bool, true, false, cond, List, Some, None, Option, option_map}
 use Rattle.analysis.specs.declared.task.Task.{Task}
 use Rattle.analysis.specs.declared.task.BoundedTask.{BoundedTask}
 use Rattle.analysis.specs.Interference.{passes}
@@ -26,6 +26,10 @@ counted r k above m x = record { window = x; total = r.total k above m x }
 -- the bound with the rule's total for it
 abbrev pub counted_bound : Rule → Task → List BoundedTask → ℕ → Option Passing
 counted_bound r k above m = option_map (counted r k above m) (bound_of r k above m)
+
+-- the window alone
+abbrev pub window_of : Option Passing → Option ℕ
+window_of o = option_map (λ (passing : Passing). passing.window) o
 
 -- x is the least number from `first` to `last` for which p holds
 pub record IsLeast (p : ℕ → Bool) (first last x : ℕ) : Type 0 where

@@ -19,7 +19,7 @@ returns-in_default g c =
     let o = rebound r m [] c.args.set.now in
     let set₀ = c.loop-place.set in
     let place = c.loop-place.place in
-    let none = counted_none r _ _ m (sym (λ j. counted_bound r (c.case-case.ensures.task j) (c.case-case.ensures.above j) (c.case-case.ensures.cores j)) ∙ sym c.search_counted.ensures ∙ c.in_default.is) in
+    let none = counted_none r _ _ m (sym (λ j. counted_bound r (c.case-case.ensures.task j) (c.case-case.ensures.above j) (c.case-case.ensures.cores j)) ∙ sym c.search_counted.ensures.equation ∙ c.in_default.is) in
     let told = turn_refused r m set₀ place no_bounded (omega arith) o c.loop-place.invariant.same none in
     let rows = c.loop-place.invariant.shown ∙ ap (rows_from r m []) told.0 in
     record {
@@ -34,7 +34,7 @@ returns-in_default g c =
 found : (g : given.Over) (c : In-Some g) → (bound_of (g.R.CountingRule.rule c.args.rule.now) (get_or c.loop-place.set c.loop-place.place no_bounded).task (take c.loop-place.place c.loop-place.set) c.args.cores ≡ Some c.in-Some.field-0.window) × (c.in-Some.field-0.total ≡ (g.R.CountingRule.rule c.args.rule.now).total (get_or c.loop-place.set c.loop-place.place no_bounded).task (take c.loop-place.place c.loop-place.set) c.args.cores c.in-Some.field-0.window)
 found g c =
     counted_some (g.R.CountingRule.rule c.args.rule.now) _ _ c.args.cores c.in-Some.field-0
-    (sym (λ j. counted_bound (g.R.CountingRule.rule c.args.rule.now) (c.case-case.ensures.task j) (c.case-case.ensures.above j) (c.case-case.ensures.cores j)) ∙ sym c.search_counted.ensures ∙ c.in-Some.is)
+    (sym (λ j. counted_bound (g.R.CountingRule.rule c.args.rule.now) (c.case-case.ensures.task j) (c.case-case.ensures.above j) (c.case-case.ensures.cores j)) ∙ sym c.search_counted.ensures.equation ∙ c.in-Some.is)
 
 pub loop-place-preserved : goal.loop-place-preserved
 loop-place-preserved g c =

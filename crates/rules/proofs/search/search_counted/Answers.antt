@@ -8,7 +8,7 @@ use Rattle.std.proofs.lemmas.Iterator.Search.{find_from_yields_List}
 use Rattle.analysis.specs.Interference.{passes}
 use Rattle.rules.specs.declared.passing.Passing.{Passing}
 use Rattle.rules.specs.Search.{counted}
-use Rattle.rules.proofs.Least.{range_gives, find_counted}
+use Rattle.rules.proofs.Least.{range_gives, find_counted, counted_least}
 use Rattle.rules.proofs.search.search_counted.Goals as goal
 
 pub returns : goal.returns
@@ -19,8 +19,10 @@ returns g c =
     let m = c.args.case.now.cores in
     let first = r.first k above m in
     let windows = range_gives c.new-windows.result first k.deadline (search rules) (search rules) (search rules) in
+    let found =
     sym (option_map_id c.find.result)
     ∙ find_from_yields_List (λ (q : Passing). passes k m q.window q.total) _ _ c.find.result c.find.ensures.ran
     (YieldsList-from_map _ (counted r k above m) (subst (λ s. YieldsList nat_range_inclusive_steps (λ x. x) s (range_with_len first (k.deadline + 1 - first))) (sym c.map-counted.ensures.source) windows) c.map-counted.ensures.closure (λ x y q h. search (rules, tests)))
     (λ x b q h. search (rules, tests))
-    ∙ find_counted r k above m (k.deadline + 1 - first) first
+    ∙ find_counted r k above m (k.deadline + 1 - first) first in
+    record { equation = found; least = counted_least r k above m c.find.result found }
